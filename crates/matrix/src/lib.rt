@@ -1,0 +1,32 @@
+// One kind's weights from its row.
+mod bands;
+mod corner;
+mod expand;
+mod outputs;
+mod raw;
+mod grid;
+mod numbers;
+mod rules;
+mod small;
+mod whole;
+
+pub use expand::expand_kind;
+
+// What expanding one kind answers: document 01's DONE (0), LENT (1), ROW (6), BAND (7) and WEIGHT (8).
+pub enum Expanded {
+    Done,
+    Lent,
+    Row {
+        kind: usize,
+    },
+    Band {
+        kind: usize,
+        channel: usize,
+        band: usize,
+    },
+    Weight {
+        kind: usize,
+        channel: usize,
+        place: usize,
+    },
+}

@@ -1,0 +1,107 @@
+// The two outputs of a kind: its weights tested, the transposed ones, and zeros where a weight is refused.
+use crate::Expanded;
+use transform::Kind;
+ghost use mathlib.Core.Path.{_≡_};
+ghost use Prim.Native.Nat.{_*_, _≤_, _<_};
+ghost use lib.ListN.{length, getD, replicate};
+ghost use lib.Ieee.{nan};
+ghost use Rattle.transform.specs.Kinds.{placesOf};
+ghost use Rattle.matrix.specs.Raw.{refused, nought};
+ghost use Rattle.matrix.specs.Mirror.{tab, turned, passed, mirror};
+ghost use Rattle.matrix.specs.Weight.{inverse};
+ghost use Rattle.matrix.specs.Expanded.{weightAnswer, leaves};
+
+// Whether a weight is refused. A NaN fails both comparisons, so it has a test of its own.
+fn refuses(w: f32) -> bool
+    ensures { λ r. ⌜ r ≡ refused w ⌝ }
+{
+    if w >= 100000000.0 {
+        return true;
+    }
+    if w <= 0.0 {
+        return true;
+    }
+    w != w
+}
+
+// How many weights pass before the first that is refused.
+fn passes(s: &[f32]) -> usize
+    ensures { λ r. ⌜ r ≡ passed (now (s .entry)) ⌝ }
+{
+    let mut i = 0;
+    while i < s.len() {
+        if refuses(s[i]) {
+            return i;
+        }
+        i += 1;
+    }
+    i
+}
+
+// 1 / w at each place.
+pub(crate) fn invert(s: &mut [f32])
+    ensures { λ r. ⌜ now (s .exit) ≡ inverse (now (s .entry)) ⌝ }
+{
+    let mut i = 0;
+    while i < s.len() {
+        s[i] = 1.0 / s[i];
+        i += 1;
+    }
+}
+
+// All zero.
+pub(crate) fn clear(s: &mut [f32])
+    ensures { λ r. ⌜ now (s .exit) ≡ replicate (length (now (s .entry))) nought ⌝ }
+{
+    let mut i = 0;
+    while i < s.len() {
+        s[i] = 0.0;
+        i += 1;
+    }
+}
+
+// The place of a kind's straight part that the place p of its transposed part shows.
+fn turned_place(w: usize, h: usize, p: usize) -> usize
+    requires { ⌜ (w * h ≤ 65536) × (p < 3 * (w * h)) ⌝ }
+    ensures { λ r. ⌜ r ≡ turned w h p ⌝ }
+{
+    let area = w * h;
+    let r = p % area;
+    p / area * area + (r % h * w + r / h)
+}
+
+// Three channels of width w and height h, transposed.
+fn turn(straight: &[f32], transposed: &mut [f32], w: usize, h: usize)
+    requires { ⌜ (w * h ≤ 65536) × (length (now straight) ≡ 3 * (w * h)) × (length (now transposed) ≡ 3 * (w * h)) ⌝ }
+    ensures { λ r. ⌜ now (transposed .exit) ≡ tab (3 * (w * h)) (λ p. getD (now (straight .entry)) (turned w h p) nan) ⌝ }
+{
+    let n = 3 * (w * h);
+    let mut p = 0;
+    while p < n {
+        transposed[p] = straight[turned_place(w, h, p)];
+        p += 1;
+    }
+}
+
+// The weights of a kind tested, and the transposed ones; all zero where one is refused.
+pub(crate) fn finish(kind: usize, straight: &mut [f32], transposed: &mut [f32]) -> Expanded
+    requires { ⌜ (kind < 17) × (length (now straight) ≡ placesOf kind) × (length (now transposed) ≡ placesOf kind) ⌝ }
+    ensures answer { λ r. ⌜ r ≡ weightAnswer kind (now (straight .entry)) ⌝ }
+    ensures straight { λ r. ⌜ now (straight .exit) ≡ leaves r (now (straight .entry)) (now (straight .entry)) ⌝ }
+    ensures transposed { λ r. ⌜ now (transposed .exit) ≡ leaves r (mirror kind (now (straight .entry))) (now (transposed .entry)) ⌝ }
+{
+    let k = Kind { no: kind };
+    let ok = passes(straight);
+    if ok < straight.len() {
+        clear(straight);
+        clear(transposed);
+        let area = k.area();
+        return Expanded::Weight {
+            kind: kind,
+            channel: ok / area,
+            place: ok % area,
+        };
+    }
+    turn(straight, transposed, k.width(), k.height());
+    Expanded::Done
+}
