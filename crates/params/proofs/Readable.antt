@@ -10,7 +10,7 @@ use Rattle.bitstream.specs.declared.Bits.the-variants.{Value}
 use Rattle.bitstream.proofs.Laws.{read-in, value-lt, value-width}
 use Rattle.bitstream.proofs.Bytes.{bytesOf, length-bytesOf, bytesOf-bytes, field-at}
 use Rattle.params.specs.Row.{on, entry}
-use Rattle.params.specs.Written.{Field, span, Spells, Sized, Written}
+use Rattle.params.proofs.Written.{Field, span, Spells, Sized, Written}
 use Rattle.params.proofs.ReadWritten.{Read, entry-read, entry-spelt}
 
 -- the fields as one number, the first the lowest

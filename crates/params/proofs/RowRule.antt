@@ -1,4 +1,4 @@
--- ROW, as document 01 says it: `rowOk` passes exactly the rows that some reading writes.
+-- ROW, as document 01 says it: `entryRow` passes exactly the rows that some reading writes.
 use mathlib.Core.Path.{_≡_, refl, sym, ap, _∙_}
 use mathlib.Core.Bool.{true}
 use mathlib.Core.List.{List, [], _∷_, _++_}
@@ -6,11 +6,11 @@ use Prim.Native.Nat.{ℕ, zero, suc, _+_, _-_, _*_, _^_, _≤_, _<_}
 use native.Mathlib.Omega.{arith}
 use lib.ListN.{length, replicate, length-append}
 use lib.Dec.{lit≤}
-use Rattle.params.specs.Written.{Field, bits, span, Sized, numbersOf, rowOf, Bands, Start, Written, plain, one, two}
-use Rattle.params.specs.Valid.{rowOk}
+use Rattle.params.proofs.Written.{Field, bits, span, Sized, numbersOf, rowOf, Bands, Start, Written, plain, one, two}
+use Rattle.params.specs.Allowed.{entryRow}
 use Rattle.params.proofs.RowLaws.{shape-fits}
 use Rattle.params.proofs.Shape.{span-append, span-numbers}
-use Rattle.params.proofs.ValidLaws.{written-ok, ok-written}
+use Rattle.params.proofs.AllowedLaws.{written-ok, ok-written}
 use Rattle.params.proofs.Readable.{Readable, written-readable, readable-written}
 
 -- every element is a 16-bit number, as in a slice of u16
@@ -61,17 +61,17 @@ short kind m row fs (one m' c a x l o f) =
 short kind m row fs (two m' c d a x y l o f g) =
     omega (arith, span-append (numbersOf a) (bits 4 (c - 1) ∷ (numbersOf x ++ bits 4 (d - 1) ∷ numbersOf y)), span-append (numbersOf x) (bits 4 (d - 1) ∷ numbersOf y), span-numbers a, span-numbers x, span-numbers y, shape-fits m', o .count, f .count, f .few, g .count, g .few)
 
-pub ok-readable : (kind : ℕ) (row : List ℕ) → Small row → rowOk kind row ≡ true → Readable kind row
+pub ok-readable : (kind : ℕ) (row : List ℕ) → Small row → entryRow kind row ≡ true → Readable kind row
 ok-readable kind row s e =
     let (m, fs, w, h) = ok-written kind row e in
     written-readable kind row (bits 3 m ∷ fs) w (sized kind m row fs w h s) (short kind m row fs w)
 
-sized-ok : (kind : ℕ) (row : List ℕ) (fs : List Field) → Written kind row fs → Sized fs → rowOk kind row ≡ true
+sized-ok : (kind : ℕ) (row : List ℕ) (fs : List Field) → Written kind row fs → Sized fs → entryRow kind row ≡ true
 sized-ok kind row fs (plain m a l o) z = written-ok kind m _ _ (plain m a l o) (z .1)
 sized-ok kind row fs (one m c a x l o f) z = written-ok kind m _ _ (one m c a x l o f) (z .1)
 sized-ok kind row fs (two m c d a x y l o f g) z = written-ok kind m _ _ (two m c d a x y l o f g) (z .1)
 
-pub readable-ok : (kind : ℕ) (row : List ℕ) → Readable kind row → rowOk kind row ≡ true
+pub readable-ok : (kind : ℕ) (row : List ℕ) → Readable kind row → entryRow kind row ≡ true
 readable-ok kind row r =
     let w = readable-written kind row r in
     sized-ok kind row (w .0) (w .1) (w .2)

@@ -4,4 +4,6 @@ mod rows;
 
 pub use read::Reading;
 pub use read::read_header;
-pub use rows::row_ok;
+pub use rows::RowCheck;
+pub use rows::check_rows;
+pub use rows::row_allowed;

@@ -1,4 +1,4 @@
--- `rowOk` is the test of `Written`: both ways.
+-- `entryRow` is the test of `Written`: both ways.
 use mathlib.Core.Path.{_≡_, refl, sym, ap, _∙_, subst}
 use mathlib.Core.Bool.{Bool, true, false, not, _&&_}
 use mathlib.Core.List.{List, [], _∷_, _++_, append-nil, append-assoc}
@@ -11,8 +11,8 @@ use lib.Dec.{leb, ltb, eqb}
 use borrow.Author.Tests.{leb-true, ltb-true, eqb-true, not-true, lt-ltb, le-leb, eq-eqb, ne-eqb}
 use Rattle.bitstream.specs.Half.{barred}
 use Rattle.params.specs.Row.{fixed, lists, allowed}
-use Rattle.params.specs.Written.{Field, bits, numbersOf, Fine, rowOf, Bands, Start, Written, plain, one, two}
-use Rattle.params.specs.Valid.{allFine, allZero, countOk, partsOk, rowOk}
+use Rattle.params.proofs.Written.{Field, bits, numbersOf, Fine, rowOf, Bands, Start, Written, plain, one, two}
+use Rattle.params.specs.Allowed.{allFine, allZero, countOk, partsOk, entryRow}
 use Rattle.params.proofs.RowLaws.{shape-fits}
 
 and-true : (a b : Bool) → a && b ≡ true → (a ≡ true) × (b ≡ true)
@@ -60,8 +60,8 @@ of-zeros (suc n) = of-zeros n
 
 -- ---- from a written row to the test
 parts-of : (kind m c d : ℕ) (vs : List ℕ) → m < 8 → allowed kind m ≡ true → countOk (leb 1 (lists m)) c ≡ true → countOk (leb 2 (lists m)) d ≡ true
-    → length vs ≡ fixed m + 3 * c + 3 * d → Fine vs → length vs ≤ 125 → rowOk kind (rowOf m c d vs) ≡ true
-unfolding rowOk
+    → length vs ≡ fixed m + 3 * c + 3 * d → Fine vs → length vs ≤ 125 → entryRow kind (rowOf m c d vs) ≡ true
+unfolding entryRow
 parts-of kind m c d vs small a k l n f fits =
     let z : List ℕ = replicate (125 - length vs) 0 in
     let long : length (rowOf m c d vs) ≡ 128 = omega (arith, length-append vs z, length-replicate {A = ℕ} (125 - length vs) 0) in
@@ -75,7 +75,7 @@ parts-of kind m c d vs small a k l n f fits =
 count-of : (c : ℕ) → 0 < c → c ≤ 16 → countOk true c ≡ true
 count-of c h k = and-both _ _ (le-leb 1 c h) (le-leb c 16 k)
 
-pub written-ok : (kind m : ℕ) (row : List ℕ) (fs : List Field) → Written kind row (bits 3 m ∷ fs) → m < 8 → rowOk kind row ≡ true
+pub written-ok : (kind m : ℕ) (row : List ℕ) (fs : List Field) → Written kind row (bits 3 m ∷ fs) → m < 8 → entryRow kind row ≡ true
 written-ok kind m row fs (plain m' a l o) h =
     parts-of kind m' 0 0 a h (o .allows) (rw l) (rw l) (o .count ∙ omega arith) (o .fine) (omega (arith, shape-fits m', o .count))
 written-ok kind m row fs (one m' c a x l o f) h =
@@ -168,8 +168,8 @@ module _ (kind m c d : ℕ) (t : List ℕ) (long : length t ≡ 125) (small : m 
   ok-some (suc (suc (suc n))) l k j = absurd (omega (arith, shape-fits m))
 
 -- what the test lets pass is a row that some reading writes
-pub ok-written : (kind : ℕ) (row : List ℕ) → rowOk kind row ≡ true → (m : ℕ) × (fs : List Field) × Written kind row (bits 3 m ∷ fs) × (m < 8)
-unfolding rowOk
+pub ok-written : (kind : ℕ) (row : List ℕ) → entryRow kind row ≡ true → (m : ℕ) × (fs : List Field) × Written kind row (bits 3 m ∷ fs) × (m < 8)
+unfolding entryRow
 ok-written kind [] e = let z : _≡_ {A = ℕ} 0 1 = cc in absurd (omega arith)
 ok-written kind (m ∷ []) e = let z : _≡_ {A = ℕ} 0 1 = cc in absurd (omega arith)
 ok-written kind (m ∷ c ∷ []) e = let z : _≡_ {A = ℕ} 0 1 = cc in absurd (omega arith)
@@ -216,14 +216,14 @@ module _ (l : List ℕ) (i : ℕ) (h : i < length l) where
   pub zero-go : eqb (getD l i 0) 0 ≡ true → allZero (drop (i + 1) l) ≡ allZero (drop i l)
   zero-go e = sym (zero-next ∙ ap (λ (t : Bool). t && allZero (drop (i + 1) l)) e)
 
--- ---- `rowOk` by the length
-pub row-no : (kind : ℕ) (row : List ℕ) → (length row ≡ 128 → ⊥) → false ≡ rowOk kind row
-unfolding rowOk
+-- ---- `entryRow` by the length
+pub row-no : (kind : ℕ) (row : List ℕ) → (length row ≡ 128 → ⊥) → false ≡ entryRow kind row
+unfolding entryRow
 row-no kind row h = sym (and-no _ _ (ne-eqb (length row) 128 h))
 
 pub row-go : (kind : ℕ) (row : List ℕ) (m c d : ℕ) → length row ≡ 128 → m ≡ getD row 0 0 → c ≡ getD row 1 0 → d ≡ getD row 2 0
-    → partsOk kind m c d (take (length row - 3) (drop 3 row)) ≡ rowOk kind row
-unfolding rowOk
+    → partsOk kind m c d (take (length row - 3) (drop 3 row)) ≡ entryRow kind row
+unfolding entryRow
 row-go kind row m c d h e f g =
     ap (λ (x : ℕ). partsOk kind x c d (take (length row - 3) (drop 3 row))) e
     ∙ ap (λ (x : ℕ). partsOk kind (getD row 0 0) x d (take (length row - 3) (drop 3 row))) f

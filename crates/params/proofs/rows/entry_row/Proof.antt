@@ -1,9 +1,9 @@
--- `params::rows::row_ok` meets its contract: the row's parts are what `partsOk` tests. Assumes nothing.
+-- `params::rows::entry_row` meets its contract: the row's parts are what `partsOk` tests. Assumes nothing.
 use mathlib.Core.Path.{_≡_, sym, ap, _∙_}
-use Rattle.params.proofs.ValidLaws.{row-no, row-go}
+use Rattle.params.proofs.AllowedLaws.{row-no, row-go}
 use borrow.Author.Needs.{needs}
-use Rattle.params.proofs.rows.row_ok.Statement.{statement}
-use Rattle.params.proofs.rows.row_ok.Tie as tie
+use Rattle.params.proofs.rows.entry_row.Statement.{statement}
+use Rattle.params.proofs.rows.entry_row.Tie as tie
 
 returns : tie.Need-returns
 returns c = row-no _ _ (c .if1 .taken)
@@ -45,8 +45,8 @@ returns-2 c =
     ∙ row-go (a .kind) (a .row .now) (c .before .before .before .before .before .before .wide .result) (c .before .before .before .before .wide2 .result) (c .before .before .wide3 .result) (search needs)
     (c .before .before .before .before .before .before .wide .ensures) (c .before .before .before .before .wide2 .ensures) (c .before .before .wide3 .ensures)
 
-pub row-ok-spec : {M : Type 1} → statement M
-row-ok-spec =
+pub entry-row-spec : {M : Type 1} → statement M
+entry-row-spec =
     tie.close
     (tie.spec
     returns
