@@ -19,3 +19,5 @@ pub mod Answered
 pub mod Corners
 pub mod Meaning
 pub mod Lending
+pub mod RowFacts
+pub mod Said

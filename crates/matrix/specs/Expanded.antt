@@ -7,7 +7,7 @@ use lib.IntN.{ℤ}
 use lib.ListN.{length, getD, replicate}
 use lib.Ieee.{Float}
 use Rattle.transform.specs.Kinds.{areaOf, placesOf}
-use Rattle.params.specs.Valid.{rowOk}
+use Rattle.params.specs.Allowed.{rowAllowed}
 use Rattle.matrix.specs.Raw.{nought}
 use Rattle.matrix.specs.Mirror.{passed}
 use Rattle.matrix.specs.declared.Expanded.{Expanded}
@@ -72,7 +72,7 @@ kindAnswer row zs k = orElse (bandAnswer (numbersOf row k) k 3) (weightAnswer k 
 
 -- LENT, then ROW, then these
 unfoldable pub expandAnswer : ℕ → List ℕ → List ℤ → ℕ → ℕ → Expanded
-expandAnswer k row zs s t = cond (lentRight k row (length zs) s t) (cond (rowOk k row) (kindAnswer row zs k) (Row k)) Lent
+expandAnswer k row zs s t = cond (lentRight k row (length zs) s t) (cond (rowAllowed k row) (kindAnswer row zs k) (Row k)) Lent
 
 -- what an answer leaves of an output s that is to hold ws
 abbrev pub leaves : Expanded → List Float → List Float → List Float

@@ -33,19 +33,28 @@ pub(crate) fn bands_of(n: Numbers, l: usize, c: usize) -> Banded
     let count = count_of(n, l);
     let mut bands = [0.0f32; 16];
     if count == 0 {
-        return Banded { sound: 0, bands: bands };
+        return Banded {
+            sound: 0,
+            bands: bands,
+        };
     }
     bands[0] = band_number(n, l, c, 0);
     let mut i: usize = 1;
     while i < count {
         let b = bands[i - 1] * mult(band_number(n, l, c, i));
         if bars(b) {
-            return Banded { sound: i, bands: bands };
+            return Banded {
+                sound: i,
+                bands: bands,
+            };
         }
         bands[i] = b;
         i += 1;
     }
-    Banded { sound: i, bands: bands }
+    Banded {
+        sound: i,
+        bands: bands,
+    }
 }
 
 // What a list of a channel answers.

@@ -104,7 +104,7 @@ pub fn expand_kind(
     if !lent_right(kind, row, samples.len(), straight.len(), transposed.len()) {
         return Expanded::Lent;
     }
-    if !params::row_ok(kind, row) {
+    if !params::row_allowed(kind, row) {
         return Expanded::Row { kind: kind };
     }
     if row[0] == 7 {

@@ -69,7 +69,15 @@ pub(crate) fn put(out: &mut [f32], area: usize, q: usize, v0: f32, v1: f32, v2: 
 }
 
 // Two bands or more over a grid.
-fn fill_many(out: &mut [f32], b0: &[f32; 16], b1: &[f32; 16], b2: &[f32; 16], count: u16, w: u16, h: u16)
+fn fill_many(
+    out: &mut [f32],
+    b0: &[f32; 16],
+    b1: &[f32; 16],
+    b2: &[f32; 16],
+    count: u16,
+    w: u16,
+    h: u16,
+)
     requires { ⌜ Grid count w h (length (now out)) × (2 ≤ count) ⌝ }
     ensures { λ r. ⌜ now (out .exit) ≡ gridOf (now (b0 .entry)) (now (b1 .entry)) (now (b2 .entry)) count w h ⌝ }
 {
@@ -103,7 +111,15 @@ fn fill_one(out: &mut [f32], b0: &[f32; 16], b1: &[f32; 16], b2: &[f32; 16], w: 
 }
 
 // The bands over a grid.
-pub(crate) fn fill(out: &mut [f32], b0: &[f32; 16], b1: &[f32; 16], b2: &[f32; 16], count: u16, w: u16, h: u16)
+pub(crate) fn fill(
+    out: &mut [f32],
+    b0: &[f32; 16],
+    b1: &[f32; 16],
+    b2: &[f32; 16],
+    count: u16,
+    w: u16,
+    h: u16,
+)
     requires { ⌜ Grid count w h (length (now out)) ⌝ }
     ensures { λ r. ⌜ now (out .exit) ≡ gridOf (now (b0 .entry)) (now (b1 .entry)) (now (b2 .entry)) count w h ⌝ }
 {

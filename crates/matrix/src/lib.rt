@@ -2,10 +2,10 @@
 mod bands;
 mod corner;
 mod expand;
-mod outputs;
-mod raw;
 mod grid;
 mod numbers;
+mod outputs;
+mod raw;
 mod rules;
 mod small;
 mod whole;

@@ -29,7 +29,7 @@ is-done-requires c κs = search needs
 
 -- src/expand.rt:25:9
 fill-rules-requires : tie.Need-fill-rules-requires
-fill-rules-requires c κs = 
+fill-rules-requires c κs =
     let a = c .before .before .before .before .before .before .args in
     (ready (a .n) (a .kind) (c .before .before .before .band-answer .result) (c .before .before .before .before .before .before .pre .0) (c .before .before .before .band-answer .ensures) (sym (c .before .before .is-done .ensures) ∙ c .before .if1 .taken), c .before .before .before .before .before .before .pre .1)
 
@@ -51,15 +51,18 @@ same-length-2 c = search needs
 
 -- src/expand.rt:27:9
 returns : tie.Need-returns
-returns c = 
+returns c =
     let a = c .before .before .before .before .before .before .before .before .before .before .before .before .before .before .before .before .before .before .before .before .args in
     let f = c .before .before .before .before .finish in
     let ws = c .before .before .before .before .before .before .before .before .before .invert .last .0 in
     let e : ws ≡ inverse (rulesOf (a .n) (a .kind)) = c .before .before .before .before .before .before .before .before .before .invert .ensures ∙ ap inverse (c .before .before .before .before .before .before .before .before .before .before .before .before .before .fill-rules .ensures) in
-    let l : length ws ≡ length (a .straight .now) = ap length e ∙ inverse-length (a .n) (a .kind) ∙ sym (c .before .before .before .before .before .before .before .before .before .before .before .before .before .before .before .before .before .before .before .before .pre .1) in
-    (f .ensures .0 ∙ ap (weightAnswer (a .kind)) e ∙ done-answer (a .n) (a .kind) (c .before .before .before .before .before .before .before .before .before .before .before .before .before .before .before .before .before .band-answer .result) (weightAnswer (a .kind) (inverse (rulesOf (a .n) (a .kind)))) (c .before .before .before .before .before .before .before .before .before .before .before .before .before .before .before .before .before .band-answer .ensures) (sym (c .before .before .before .before .before .before .before .before .before .before .before .before .before .before .before .before .is-done .ensures) ∙ c .before .before .before .before .before .before .before .before .before .before .before .before .before .before .before .if1 .taken),
-      (f .ensures .1 .0 ∙ finish-leaves (a .kind) (f .result) ws ws ws (a .straight .now) (f .ensures .0) l ∙ ap (λ (x : List Float). leaves (f .result) x (a .straight .now)) e,
-        f .ensures .1 .1 ∙ ap (λ (x : List Float). leaves (f .result) (mirror (a .kind) x) (a .transposed .now)) e))
+    let l : length ws ≡ length (a .straight .now) = ap length e ∙ inverse-length (a .n) (a .kind) ∙ sym (c .before .before .before .before .before .before .before .before .before .before .before .before .before .before .before .before .before .before .before .before .pre .1) in (
+      f .ensures .0 ∙ ap (weightAnswer (a .kind)) e ∙ done-answer (a .n) (a .kind) (c .before .before .before .before .before .before .before .before .before .before .before .before .before .before .before .before .before .band-answer .result) (weightAnswer (a .kind) (inverse (rulesOf (a .n) (a .kind)))) (c .before .before .before .before .before .before .before .before .before .before .before .before .before .before .before .before .before .band-answer .ensures) (sym (c .before .before .before .before .before .before .before .before .before .before .before .before .before .before .before .before .is-done .ensures) ∙ c .before .before .before .before .before .before .before .before .before .before .before .before .before .before .before .if1 .taken),
+      (
+        f .ensures .1 .0 ∙ finish-leaves (a .kind) (f .result) ws ws ws (a .straight .now) (f .ensures .0) l ∙ ap (λ (x : List Float). leaves (f .result) x (a .straight .now)) e,
+        f .ensures .1 .1 ∙ ap (λ (x : List Float). leaves (f .result) (mirror (a .kind) x) (a .transposed .now)) e,
+      ),
+    )
 
 -- src/expand.rt:29:5
 clear-requires : tie.Need-clear-requires
@@ -79,13 +82,16 @@ same-length-4 c = search needs
 
 -- src/expand.rt:17:1
 returns-2 : tie.Need-returns-2
-returns-2 c = 
+returns-2 c =
     let a = c .before .before .before .before .before .before .before .before .before .before .before .before .before .args in
     let b = c .before .before .before .before .before .before .before .before .before .before .band-answer in
-    let no = sym (c .before .before .before .before .before .before .before .before .before .is-done .ensures) ∙ c .before .before .before .before .before .before .before .before .if1 .left in
-    (refused-answer (a .n) (a .kind) (b .result) (b .ensures) no (weightAnswer (a .kind) (inverse (rulesOf (a .n) (a .kind)))),
-      (c .before .before .before .before .before .before .clear .ensures ∙ refused-leaves (a .n) (a .kind) (b .result) (b .ensures) no (inverse (rulesOf (a .n) (a .kind))) (a .straight .now),
-        c .before .before .clear2 .ensures ∙ refused-leaves (a .n) (a .kind) (b .result) (b .ensures) no (mirror (a .kind) (inverse (rulesOf (a .n) (a .kind)))) (a .transposed .now)))
+    let no = sym (c .before .before .before .before .before .before .before .before .before .is-done .ensures) ∙ c .before .before .before .before .before .before .before .before .if1 .left in (
+      refused-answer (a .n) (a .kind) (b .result) (b .ensures) no (weightAnswer (a .kind) (inverse (rulesOf (a .n) (a .kind)))),
+      (
+        c .before .before .before .before .before .before .clear .ensures ∙ refused-leaves (a .n) (a .kind) (b .result) (b .ensures) no (inverse (rulesOf (a .n) (a .kind))) (a .straight .now),
+        c .before .before .clear2 .ensures ∙ refused-leaves (a .n) (a .kind) (b .result) (b .ensures) no (mirror (a .kind) (inverse (rulesOf (a .n) (a .kind)))) (a .transposed .now),
+      ),
+    )
 
 pub expand-numbers-spec : {M : Type 1} → statement M
 expand-numbers-spec =

@@ -14,19 +14,27 @@ arena-length-requires c κs = search needs
 
 -- src/expand.rt:78:9
 returns : tie.Need-returns
-returns c = ?
+returns c =
+    let a = c .before .before .before .args in
+    no-kind (a .kind) (a .row .now) (a .n) (a .s) (a .t) _ (c .before .arena-length .ensures) (c .if1 .taken)
 
 -- src/expand.rt:81:9
 returns-2 : tie.Need-returns-2
-returns-2 c = ?
+returns-2 c =
+    let a = c .before .before .before .before .args in
+    no-row (a .kind) (a .row .now) (a .n) (a .s) (a .t) _ (c .before .before .arena-length .ensures) (c .before .if1 .left) (c .if2 .taken)
 
 -- src/expand.rt:84:9
 returns-3 : tie.Need-returns-3
-returns-3 c = ?
+returns-3 c =
+    let a = c .before .before .before .before .before .args in
+    no-first (a .kind) (a .row .now) (a .n) (a .s) (a .t) _ (c .before .before .before .arena-length .ensures) (c .before .before .if1 .left) (c .before .if2 .left) (c .if3 .taken)
 
 -- src/expand.rt:87:9
 returns-4 : tie.Need-returns-4
-returns-4 c = ?
+returns-4 c =
+    let a = c .before .before .before .before .before .before .args in
+    no-second (a .kind) (a .row .now) (a .n) (a .s) (a .t) _ (c .before .before .before .before .arena-length .ensures) (c .before .before .before .if1 .left) (c .before .before .if2 .left) (c .before .if3 .left) (c .if4 .taken)
 
 -- src/expand.rt:89:30
 shared-slice-read-samples-right : tie.Need-shared-slice-read-samples-right
@@ -38,7 +46,9 @@ samples-right-requires c κs = search needs
 
 -- src/expand.rt:73:1
 returns-5 : tie.Need-returns-5
-returns-5 c = ?
+returns-5 c =
+    let a = c .before .before .before .before .before .before .before .before .args in
+    by-samples (a .kind) (a .row .now) (a .n) (a .s) (a .t) _ (c .before .before .before .before .before .before .arena-length .ensures) _ (c .before .before .before .before .before .if1 .left) (c .before .before .before .before .if2 .left) (c .before .before .before .if3 .left) (c .before .before .if4 .left) (c .samples-right .ensures)
 
 pub lent-right-spec : {M : Type 1} → statement M
 lent-right-spec =

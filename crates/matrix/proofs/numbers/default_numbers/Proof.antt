@@ -83,7 +83,7 @@ array-read-t23 c = search needs
 
 -- src/numbers.rt:30:1
 returns : tie.Need-returns Inv-loop μ-loop
-returns c = 
+returns c =
     let k = c .before .before .args .kind in
     let l = c .before .loop in
     let e : l .i ≡ 123 = omega arith in

@@ -83,7 +83,7 @@ shared-slice-read-t18 c = search needs
 
 -- src/numbers.rt:49:1
 returns : tie.Need-returns Inv-loop μ-loop
-returns c = 
+returns c =
     let row = c .before .before .before .before .before .before .args .row .now in
     let l = c .before .before .before .before .loop in
     let e : l .i ≡ 123 = omega arith in

@@ -35,7 +35,7 @@ area-requires c κs = search needs
 
 -- src/outputs.rt:52:22
 div-t16 : tie.Need-div-t16
-div-t16 c = 
+div-t16 c =
     let a = c .before .before .before .before .before .before .before .before .before .before .before .before .before .before .args in
     let h = c .before .before .before .before .before .before .before .before .before .before .before .before .before .before .pre in
     let p = places-is (a .kind) in
@@ -45,7 +45,7 @@ div-t16 c =
 
 -- src/outputs.rt:53:20
 rem-t17 : tie.Need-rem-t17
-rem-t17 c = 
+rem-t17 c =
     let a = c .before .before .before .before .before .before .before .before .before .before .before .before .before .before .args in
     let h = c .before .before .before .before .before .before .before .before .before .before .before .before .before .before .pre in
     let p = places-is (a .kind) in
@@ -63,10 +63,11 @@ same-length-2 c = search needs
 
 -- src/outputs.rt:50:9
 returns : tie.Need-returns
-returns c = 
-    let a = c .before .before .before .before .before .before .before .before .before .before .before .before .before .before .args in
-    (weight-refused (a .kind) (a .straight .now) (c .before .before .before .before .before .before .before .before .before .before .passes .result) (c .area .result) (c .before .before .before .before .before .before .before .before .before .before .passes .ensures) (c .area .ensures) (c .before .before .before .before .before .before .before .before .before .if1 .taken),
-      (c .before .before .before .before .before .before .before .clear .ensures, c .before .before .before .clear2 .ensures))
+returns c =
+    let a = c .before .before .before .before .before .before .before .before .before .before .before .before .before .before .args in (
+      weight-refused (a .kind) (a .straight .now) (c .before .before .before .before .before .before .before .before .before .before .passes .result) (c .area .result) (c .before .before .before .before .before .before .before .before .before .before .passes .ensures) (c .area .ensures) (c .before .before .before .before .before .before .before .before .before .if1 .taken),
+      (c .before .before .before .before .before .before .before .clear .ensures, c .before .before .before .clear2 .ensures),
+    )
 
 -- src/outputs.rt:56:42
 width-requires : tie.Need-width-requires
@@ -78,7 +79,7 @@ height-requires c κs = search needs
 
 -- src/outputs.rt:56:5
 turn-requires : tie.Need-turn-requires
-turn-requires c κs = 
+turn-requires c κs =
     let a = c .before .before .before .before .before .before .before .before .before .args in
     let p = places-is (a .kind) in
     let w = area-is (a .kind) (c .before .width .result) (c .height .result) (c .before .width .ensures) (c .height .ensures) in
@@ -97,10 +98,11 @@ same-length-4 c = search needs
 
 -- src/outputs.rt:38:1
 returns-2 : tie.Need-returns-2
-returns-2 c = 
-    let a = c .before .before .before .before .before .before .before .before .before .before .before .before .args in
-    (weight-done (a .kind) (a .straight .now) _ (c .before .before .before .before .before .before .before .before .passes .ensures) (c .before .before .before .before .before .before .before .if1 .left),
-      (refl, whole-turned (a .kind) _ _ (a .straight .now) _ (c .before .before .before .before .width .ensures) (c .before .before .before .height .ensures) (c .before .before .turn .ensures)))
+returns-2 c =
+    let a = c .before .before .before .before .before .before .before .before .before .before .before .before .args in (
+      weight-done (a .kind) (a .straight .now) _ (c .before .before .before .before .before .before .before .before .passes .ensures) (c .before .before .before .before .before .before .before .if1 .left),
+      (refl, whole-turned (a .kind) _ _ (a .straight .now) _ (c .before .before .before .before .width .ensures) (c .before .before .before .height .ensures) (c .before .before .turn .ensures)),
+    )
 
 pub finish-spec : {M : Type 1} → statement M
 finish-spec =

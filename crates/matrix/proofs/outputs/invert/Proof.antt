@@ -52,15 +52,16 @@ loop-less c = search needs
 -- src/outputs.rt:17:5
 loop-again : tie.Need-loop-again Inv-loop μ-loop
 unfolding ofBits
-loop-again c = 
+loop-again c =
     let l = c .before .before .loop in
     let s = c .before .before .before .args .s .now in
     let t : l .i < length (l .s) = c .before .loop-test .taken in
     let g : length (l .s) ≡ length s = l .inv .1 in
-    let h : l .i < length s = omega arith in
-    (omega arith,
+    let h : l .i < length s = omega arith in (
+      omega arith,
       length-set (l .s) (l .i) _ ∙ l .inv .1,
-      front-on s (l .s) (l .i) (λ k. div binary32 one (getD s k nan)) _ (l .inv .2) (ap (div binary32 one) (front-past s (l .s) (l .i) (λ k. div binary32 one (getD s k nan)) nan (l .inv .2) (omega arith))))
+      front-on s (l .s) (l .i) (λ k. div binary32 one (getD s k nan)) _ (l .inv .2) (ap (div binary32 one) (front-past s (l .s) (l .i) (λ k. div binary32 one (getD s k nan)) nan (l .inv .2) (omega arith))),
+    )
 
 -- src/outputs.rt:13:1
 same-length : tie.Need-same-length Inv-loop μ-loop
@@ -68,7 +69,7 @@ same-length c = search needs
 
 -- src/outputs.rt:13:1
 returns : tie.Need-returns Inv-loop μ-loop
-returns c = 
+returns c =
     let l = c .before .loop in
     let s = c .before .before .args .s .now in
     let e : l .i ≡ length s = omega arith in

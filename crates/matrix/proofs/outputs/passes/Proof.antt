@@ -42,7 +42,7 @@ refuses-requires c κs = search needs
 
 -- src/outputs.rt:30:13
 returns : tie.Need-returns Inv-loop μ-loop
-returns c = 
+returns c =
     let l = c .before .before .before .before .loop in
     let s = c .before .before .before .before .before .before .args .s .now in
     let h : l .i < length s = c .before .before .before .loop-test .taken in
@@ -58,17 +58,18 @@ loop-less c = search needs
 
 -- src/outputs.rt:28:5
 loop-again : tie.Need-loop-again Inv-loop μ-loop
-loop-again c = 
+loop-again c =
     let l = c .before .before .before .before .loop in
     let s = c .before .before .before .before .before .before .args .s .now in
-    let h : l .i < length s = c .before .before .before .loop-test .taken in
-    (omega arith,
+    let h : l .i < length s = c .before .before .before .loop-test .taken in (
+      omega arith,
       l .inv .1 ∙ ap (λ (k : ℕ). l .i + k) (goes-on s (l .i) nan h (sym (c .before .refuses .ensures) ∙ c .if1 .left))
-      ∙ ap (λ (k : ℕ). l .i + suc (passed (drop k s))) (sym (add-one (l .i))) ∙ shift (l .i) (passed (drop (l .i + 1) s)))
+          ∙ ap (λ (k : ℕ). l .i + suc (passed (drop k s))) (sym (add-one (l .i))) ∙ shift (l .i) (passed (drop (l .i + 1) s)),
+    )
 
 -- src/outputs.rt:24:1
 returns-2 : tie.Need-returns-2 Inv-loop μ-loop
-returns-2 c = 
+returns-2 c =
     let l = c .before .loop in
     let s = c .before .before .before .args .s .now in
     sym (l .inv .1 ∙ ap (λ (k : ℕ). l .i + k) (ends s (l .i) (c .loop-test .left)) ∙ add-zero (l .i))

@@ -29,7 +29,7 @@ four-of-requires c κs = search needs
 
 -- src/whole.rt:83:9
 fill-small-requires : tie.Need-fill-small-requires
-fill-small-requires c κs = 
+fill-small-requires c κs =
     let a = c .before .before .before .before .before .before .before .before .args in
     let r = c .before .before .before .before .before .before .before .before .pre .0 in
     let m : a .n .mode < 6 = c .before .before .before .before .before .if1 .taken in
@@ -53,7 +53,7 @@ cast-fill-bands-2 c = let e = c .height .ensures in let l = height-le (c .before
 
 -- src/whole.rt:85:9
 fill-bands-requires : tie.Need-fill-bands-requires
-fill-bands-requires c κs = 
+fill-bands-requires c κs =
     let a = c .before .before .before .before .before .before .args in
     let r = c .before .before .before .before .before .before .pre .0 in
     let m : 6 ≤ a .n .mode = c .before .before .before .if1 .left in
@@ -73,7 +73,7 @@ same-length-2 c = search needs
 
 -- src/whole.rt:75:1
 returns-2 : tie.Need-returns-2
-returns-2 c = 
+returns-2 c =
     let a = c .before .before .before .before .before .before .before .before .before .args in
     let r = c .before .before .before .before .before .before .before .before .before .pre .0 in
     let m : 6 ≤ a .n .mode = c .before .before .before .before .before .before .if1 .left in
