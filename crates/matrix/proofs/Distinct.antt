@@ -1,4 +1,4 @@
--- Raw weights tell samples apart. For one denominator that is a multiple of 2 ^ -24, as every half float is, and samples of magnitude up to 8,388,607
+-- Raw weights tell samples apart. For one denominator that is a multiple of 2 ^ -24, as every half float is (`half-coarse`), and samples of magnitude up to 8,388,607
 -- whose weights are accepted: the larger magnitude has the strictly larger weight (`larger`), and different samples have different weights (`distinct`). Assumes nothing.
 use mathlib.Core.Path.{_≡_, refl, sym, ap, _∙_, subst}
 use mathlib.Core.Logic.{⊎-elim, inl, inr}
@@ -15,6 +15,8 @@ use lib.Ieee.Fits.{round-is, reach, down-pos, and-l, and-r}
 use lib.Ieee.Exact.{HasValue, round-exact}
 use lib.Ieee.Scale.{round-same, finite}
 use lib.Ieee.Positive.{num, den, den-pos, positive, positive-finite, first-pos, value-pos}
+use Rattle.bitstream.specs.Half.{half}
+use Rattle.bitstream.proofs.HalfLaws.{half-exact}
 use Rattle.matrix.specs.Raw.{weightOf, refused, limit, nought}
 use Rattle.transform.proofs.Laws.{side}
 use Rattle.matrix.proofs.Strict.{multiples}
@@ -122,9 +124,21 @@ form f (fin u m e) (fin v n d) s a h t =
     cross p q r t a e = ap (λ (x : ℕ). x * q * r) e ∙ simp (mul-assoc, mul-comm, mul-left-comm)
 
 -- ---- the weights
--- d is a multiple of 2 ^ -24, as every half float is
+-- d is 0, or 2 ^ -24 or more in size
 abbrev pub Coarse : Float → Type 0
-Coarse d = den d ≤ 2 ^ 24
+Coarse d = 0 < num d → den d ≤ num d * 2 ^ 24
+
+of-value : (x : Float) (s : Bool) (a : ℕ) → HasValue x s a (2 ^ 24) → Coarse x
+of-value nan s a h = absurd h
+of-value (inf t) s a h = absurd h
+of-value (fin t m e) s a h = λ p. le-trans (under a (down e) (first-pos a (down e) (subst (λ (n : ℕ). 0 < n) (h .1) (mul-pos p (pow-pos 24))))) (le-of-eq (sym (h .1)))
+  where
+    under : (a d : ℕ) → 0 < a → d ≤ a * d
+    under a d p = le-trans (le-of-eq (sym (one-mul d))) (mul-le-mul-right d p)
+
+-- every half float is
+pub half-coarse : (h : ℕ) → Coarse (half h)
+half-coarse h = of-value (half h) _ _ (half-exact h)
 
 -- what rounds to a value above zero is above zero
 from-pos : (f : Format) (n D : ℕ) → 0 < D → T (positive (round f false n D)) → 0 < n
@@ -140,8 +154,8 @@ weight-form : (d : Float) (z : ℤ) → natAbs z < 2 ^ 24 → T (positive (weigh
 unfolding weightOf
 weight-form d z h t = form binary32 (ofInt binary32 z) d (sign z) (natAbs z) (ofInt-value binary32 z h) t
 
-above-unit : (n D : ℕ) → 0 < n → D ≤ 2 ^ 24 → D < n * 2 ^ 149
-above-unit n D P h = lt-of-le-of-lt h (lt-of-lt-of-le (lit< tt) (le-trans (le-of-eq (sym (one-mul (2 ^ 149)))) (mul-le-mul-right (2 ^ 149) P)))
+above-unit : (n D : ℕ) → 0 < n → (0 < n → D ≤ n * 2 ^ 24) → D < n * 2 ^ 149
+above-unit n D P h = lt-of-le-of-lt (h P) (mul-lt-mul-of-pos-left {m = 2 ^ 24} {n = 2 ^ 149} (lit< tt) P)
 
 above : (a b : ℕ) → 0 < a * b → 0 < b
 above a b h = first-pos b a (subst (λ (x : ℕ). 0 < x) (mul-comm a b) h)

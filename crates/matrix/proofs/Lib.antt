@@ -21,3 +21,7 @@ pub mod Meaning
 pub mod Lending
 pub mod RowFacts
 pub mod Said
+pub mod Range
+pub mod Places
+pub mod RawPlaces
+pub mod NumbersToHold

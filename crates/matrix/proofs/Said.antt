@@ -46,7 +46,7 @@ pub raw-answer : (k : ℕ) (row : List ℕ) (zs : List ℤ) → Facts k row → 
 unfolding kindAnswer
 raw-answer k row zs f e = sym (ap (λ (x : Expanded). orElse x (weightAnswer k (weightsOf row zs k))) (raw-bands row k f e))
 
-raw-at : (row : List ℕ) (zs : List ℤ) (k c p : ℕ) → getD row 0 0 ≡ 7
+pub raw-at : (row : List ℕ) (zs : List ℤ) (k c p : ℕ) → getD row 0 0 ≡ 7
     → weightAt row zs k c p ≡ weightOf (half (getD row 3 0)) (getD zs (c * areaOf k + p) (pos 0))
 unfolding weightAt weightIn
 raw-at row zs k c p e =
