@@ -87,7 +87,12 @@ fn row_length(text: &[u8], k: usize) -> usize
 fn replay_one(text: &[u8], k: usize, r: usize, a: usize, p: usize, samples: &mut [i32; 196608]) {
     let row = row_of(text, r, size(text, sum(k, 3)));
     let long = row_length(text, sum(k, 2));
-    fill_samples(samples, word(text, sum(k, 5)), word(text, sum(k, 6)), word(text, sum(k, 7)));
+    fill_samples(
+        samples,
+        word(text, sum(k, 5)),
+        word(text, sum(k, 6)),
+        word(text, sum(k, 7)),
+    );
     set_apart(samples, text, a, size(text, sum(k, 8)));
     let count = size(text, sum(k, 4));
     let first = size(text, sum(k, 9));

@@ -11,16 +11,16 @@ use lib.Dec.{ltb, eqb}
 use lib.ListN.{length, replicate, length-map}
 use lib.Ieee.{Float, binary32, div}
 use Rattle.transform.specs.Kinds.{widthOf, areaOf, placesOf}
-use Rattle.segment.specs.Bands.{one}
+use Rattle.bands.specs.Bands.{atOf, one, nought, sound, barred, bandAt}
 use Rattle.matrix.specs.Mirror.{passed}
-use Rattle.matrix.proofs.Lists.{length-tab}
-use Rattle.matrix.specs.Raw.{nought}
+use Rattle.matrix.specs.Numbers.{listOf, count}
+use Rattle.matrix.specs.Views.{AllSound, Shaped, Ready, rulesOf, inverse}
+use Rattle.matrix.specs.Weight.{rule}
+use Rattle.bands.specs.Quant.{soundOf, channelOf}
+use Rattle.bands.proofs.TableLaws.{length-tab}
 use Rattle.matrix.specs.declared.numbers.Numbers.{Numbers}
 use Rattle.matrix.specs.declared.Expanded.{Expanded}
 use Rattle.matrix.specs.declared.Expanded.the-variants.{Done, Lent, Row, Band, Weight}
-use Rattle.matrix.specs.Numbers.{bandNumber, count}
-use Rattle.matrix.specs.Bands.{sound, barred, bandAt}
-use Rattle.matrix.specs.Weight.{AllSound, Shaped, Ready, rule, rulesOf, inverse}
 use Rattle.matrix.specs.Expanded.{listAnswer, bandAnswer, weightAnswer, orElse, isDone, leaves}
 
 -- ---- a list's answer is DONE or BAND
@@ -33,9 +33,9 @@ Bandlike (Weight k c p) = ⊥
 
 list-like : (n : Numbers) (k c l : ℕ) → Bandlike (listAnswer n k c l)
 unfolding listAnswer
-list-like n k c l = go (ltb (sound (bandNumber n l c) (count n l)) (count n l))
+list-like n k c l = go (ltb (soundOf (listOf n l) (count n l) c) (count n l))
   where
-    go : (t : Bool) → Bandlike (cond t (Band k c (sound (bandNumber n l c) (count n l))) Done)
+    go : (t : Bool) → Bandlike (cond t (Band k c (soundOf (listOf n l) (count n l) c)) Done)
     go true = tt
     go false = tt
 
@@ -113,15 +113,12 @@ sound-le ps (suc m) = go (eqb (sound ps m) m && (eqb m 0 || not (barred (bandAt 
     go true h = omega arith
     go false h = omega arith
 
-list-sound : (n : Numbers) (k c l : ℕ) → isDone (listAnswer n k c l) ≡ true → sound (bandNumber n l c) (count n l) ≡ count n l
+list-sound : (n : Numbers) (k c l : ℕ) → isDone (listAnswer n k c l) ≡ true → soundOf (listOf n l) (count n l) c ≡ count n l
 unfolding listAnswer
-list-sound n k c l e = ⊎-elim (λ z. z) (λ h. absurd (no h)) (eq-or-lt-of-le (sound-le (bandNumber n l c) (count n l)))
+list-sound n k c l e = ⊎-elim (λ z. z) (λ h. absurd (no h)) (eq-or-lt-of-le (sound-le (atOf (channelOf (listOf n l) (count n l) c)) (count n l)))
   where
-    s : ℕ
-    s = sound (bandNumber n l c) (count n l)
-
-    no : sound (bandNumber n l c) (count n l) < count n l → ⊥
-    no h = true≢false (sym e ∙ ap (λ (t : Bool). isDone (cond t (Band k c (sound (bandNumber n l c) (count n l))) Done)) (lt-ltb (sound (bandNumber n l c) (count n l)) (count n l) h))
+    no : soundOf (listOf n l) (count n l) c < count n l → ⊥
+    no h = true≢false (sym e ∙ ap (λ (t : Bool). isDone (cond t (Band k c (soundOf (listOf n l) (count n l) c)) Done)) (lt-ltb (soundOf (listOf n l) (count n l) c) (count n l) h))
 
 pub all-sound : (n : Numbers) (k : ℕ) (b : Expanded) → b ≡ bandAnswer n k 3 → isDone b ≡ true → AllSound n 0
 all-sound n k b is-b e = record { each = λ c h. list-sound n k c 0 (or-first (listAnswer n k c 0) (listAnswer n k c 1) (each-done n k 3 c (sym (ap isDone is-b) ∙ e) h)) }
@@ -130,18 +127,7 @@ pub all-sound-2 : (n : Numbers) (k : ℕ) (b : Expanded) → b ≡ bandAnswer n 
 all-sound-2 n k b is-b e = record { each = λ c h. list-sound n k c 1 (or-second (listAnswer n k c 0) (listAnswer n k c 1) (each-done n k 3 c (sym (ap isDone is-b) ∙ e) h)) }
 
 pub ready : (n : Numbers) (k : ℕ) (b : Expanded) → Shaped n k → b ≡ bandAnswer n k 3 → isDone b ≡ true → Ready n k
-ready n k b s is-b e = record {
-  named = s .named;
-  few = s .few;
-  sound0 = all-sound n k b is-b e;
-  sound1 = all-sound-2 n k b is-b e;
-  least = s .least;
-  most = s .most;
-  some = s .some;
-  more = s .more;
-  wide = s .wide;
-  high = s .high;
-}
+ready n k b s is-b e = record { shaped = s; sound0 = all-sound n k b is-b e; sound1 = all-sound-2 n k b is-b e }
 
 pub done-answer : (n : Numbers) (k : ℕ) (b w : Expanded) → b ≡ bandAnswer n k 3 → isDone b ≡ true → w ≡ orElse (bandAnswer n k 3) w
 done-answer n k b w is-b e = ap (λ (x : Expanded). orElse x w) (sym (done-of b e) ∙ is-b)

@@ -17,7 +17,8 @@ use lib.Ieee.Scale.{round-same, finite}
 use lib.Ieee.Positive.{num, den, den-pos, positive, positive-finite, first-pos, value-pos}
 use Rattle.bitstream.specs.Half.{half}
 use Rattle.bitstream.proofs.HalfLaws.{half-exact}
-use Rattle.matrix.specs.Raw.{weightOf, refused, limit, nought}
+use Rattle.bands.specs.Bands.{nought}
+use Rattle.matrix.specs.Raw.{weightOf, refused, limit}
 use Rattle.transform.proofs.Laws.{side}
 use Rattle.matrix.proofs.Strict.{multiples}
 

@@ -3,10 +3,10 @@ use mathlib.Core.Path.{_≡_, refl, sym, ap, _∙_, subst}
 use mathlib.Core.List.{List}
 use Prim.Native.Nat.{ℕ, _+_, _≤_}
 use native.Mathlib.Nat.{zero-add, add-zero}
-use lib.ListN.{length, set, getD}
-use lib.Seq.{sets}
-use Rattle.matrix.specs.Mirror.{tab}
-use Rattle.matrix.proofs.Lists.{step-on, sets-whole, length-tab, sets-after}
+use lib.ListN.{length, set, getD, take, drop}
+use lib.Seq.{sets, sets-eq, take-at}
+use Rattle.bands.specs.Table.{tab}
+use Rattle.bands.proofs.TableLaws.{step-on, sets-whole, length-tab, sets-after}
 
 pub front-on : {A : Type 0} (l s : List A) (i : ℕ) (f : ℕ → A) (v : A) → s ≡ sets l 0 (tab i f) → v ≡ f i → set s i v ≡ sets l 0 (tab (i + 1) f)
 front-on l s i f v e g = ap (λ k. set s k v) (sym (zero-add i)) ∙ step-on l s 0 i f v e g
@@ -24,3 +24,9 @@ front-past l s i f d e h =
   where
     at : 0 + length (tab i f) + 0 ≡ i
     at = add-zero (0 + length (tab i f)) ∙ zero-add (length (tab i f)) ∙ length-tab i f
+
+-- what is reached, in front
+pub front-take : {A : Type 0} (l s : List A) (i n : ℕ) (f : ℕ → A) → s ≡ sets l 0 (tab i f) → n ≤ length l → i ≡ n → take n s ≡ tab n f
+front-take l s i n f e h g =
+    let fit : 0 + length (tab n f) ≤ length l = subst (λ (k : ℕ). k ≤ length l) (sym (zero-add (length (tab n f)) ∙ length-tab n f)) h in
+    ap (take n) (e ∙ ap (λ (k : ℕ). sets l 0 (tab k f)) g ∙ sets-eq (tab n f) l 0 fit) ∙ take-at (tab n f) (drop (0 + length (tab n f)) l) n (length-tab n f)

@@ -8,7 +8,8 @@ use lib.Dec.{ltb}
 use lib.ListN.{length, getD}
 use lib.Ieee.{Float, nan}
 use Rattle.transform.specs.Kinds.{widthOf, heightOf, areaOf, placesOf}
-use Rattle.matrix.specs.Mirror.{tab, turned, mirror, passed}
+use Rattle.bands.specs.Table.{tab}
+use Rattle.matrix.specs.Mirror.{turned, mirror, passed}
 use Rattle.matrix.specs.declared.Expanded.{Expanded}
 use Rattle.matrix.specs.declared.Expanded.the-variants.{Done, Weight}
 use Rattle.matrix.specs.Expanded.{weightAnswer}

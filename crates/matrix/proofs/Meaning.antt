@@ -12,15 +12,16 @@ use lib.ListN.{length, getD}
 use lib.Ieee.{Float, nan, binary32, div}
 use Rattle.transform.specs.Kinds.{widthOf, heightOf, areaOf, placesOf}
 use Rattle.transform.proofs.Laws.{at}
-use Rattle.segment.specs.Bands.{one}
-use Rattle.matrix.specs.Raw.{weightOf, nought}
-use Rattle.matrix.specs.Mirror.{tab}
-use Rattle.matrix.proofs.Lists.{map-tab, length-tab, getD-tab}
-use Rattle.matrix.proofs.Lists.{tab-same}
+use Rattle.bands.specs.Bands.{one, nought}
+use Rattle.matrix.specs.Numbers.{numbersOf, defaultNumbers}
+use Rattle.matrix.specs.Raw.{weightOf}
+use Rattle.matrix.specs.Views.{rulesOf, inverse, Shaped}
+use Rattle.matrix.specs.Weight.{rule, weightIn, weightAt, weightsOf}
+use Rattle.bands.specs.Table.{tab}
+use Rattle.bands.proofs.TableLaws.{map-tab, length-tab, getD-tab}
+use Rattle.bands.proofs.TableLaws.{tab-same}
 use Rattle.matrix.specs.declared.numbers.Numbers.{Numbers}
 use Rattle.matrix.specs.Defaults.{defaultMode, defaultFirst, defaultSecond}
-use Rattle.matrix.specs.Numbers.{numbersOf, defaultNumbers}
-use Rattle.matrix.specs.Weight.{rule, rulesOf, inverse, weightIn, weightAt, weightsOf, Shaped}
 
 map-of-tab : {A B : Type 0} (g : A → B) (n : ℕ) (f : ℕ → A) (d : A) → map g (tab n f) ≡ tab n (λ i. g (f i))
 map-of-tab g n f d =
@@ -55,7 +56,7 @@ pub default-shaped : (k : ℕ) → k < 17 → Shaped (defaultNumbers k) k
 unfolding widthOf heightOf
 default-shaped k h = record {
   named = h;
-  few = record { one = leb→le (defaultFirst k) 16 (at (λ k. leb (defaultFirst k) 16) 17 tt k h); two = leb→le (defaultSecond k) 16 (at (λ k. leb (defaultSecond k) 16) 17 tt k h) };
+  few = record { first = leb→le (defaultFirst k) 16 (at (λ k. leb (defaultFirst k) 16) 17 tt k h); second = leb→le (defaultSecond k) 16 (at (λ k. leb (defaultSecond k) 16) 17 tt k h) };
   least = leb→le 1 (defaultMode k) (at (λ k. leb 1 (defaultMode k)) 17 tt k h);
   most = leb→le (defaultMode k) 6 (at (λ k. leb (defaultMode k) 6) 17 tt k h);
   some = λ m. leb→le 1 (defaultFirst k) (or-right (leb (defaultMode k) 2) (leb 1 (defaultFirst k)) (at (λ k. leb (defaultMode k) 2 || leb 1 (defaultFirst k)) 17 tt k h) (lt-leb (defaultMode k) 2 m));

@@ -9,9 +9,9 @@ use lib.ListN.{getD}
 use lib.Ieee.{Float, nan, fin, mul, ofInt, le, ne, round}
 use Rattle.transform.specs.Kinds.{widthOf, heightOf, areaOf, placesOf}
 use Rattle.bitstream.specs.Half.{half}
-use Rattle.matrix.specs.Raw.{weightOf, refused}
 use Rattle.matrix.specs.Mirror.{turned, mirror}
-use Rattle.matrix.proofs.Lists.{getD-tab}
+use Rattle.matrix.specs.Raw.{weightOf, refused}
+use Rattle.bands.proofs.TableLaws.{getD-tab}
 
 -- 99,959,104 is 1,561,861 x 2 ^ 6, and 99,999,992 is 12,499,999 x 2 ^ 3
 pub p10 : (weightOf (half 31743) (pos 1526) ≡ fin false 1561861 (pos 6)) × (refused (weightOf (half 31743) (pos 1526)) ≡ false) × (refused (weightOf (half 31743) (pos 1527)) ≡ true)

@@ -8,8 +8,8 @@ use native.Mathlib.Omega.{arith}
 use lib.ListN.{length, getD, drop}
 use lib.Seq.{drop-cons, drop-length}
 use lib.Ieee.{Float}
-use Rattle.matrix.specs.Raw.{refused}
 use Rattle.matrix.specs.Mirror.{passed}
+use Rattle.matrix.specs.Raw.{refused}
 
 first : (w : Float) (ws : List Float) (b : Bool) → refused w ≡ b → passed (w ∷ ws) ≡ cond b 0 (suc (passed ws))
 unfolding passed

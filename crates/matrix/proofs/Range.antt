@@ -10,7 +10,8 @@ use lib.Dec.{T, ltb, eqb, lt→ltb, ltb→lt}
 use lib.IntN.{pos}
 use lib.Ieee.{Float, nan, inf, fin, up, down, lt, le, eq, ne}
 use lib.Ieee.Positive.{positive}
-use Rattle.matrix.specs.Raw.{refused, limit, nought}
+use Rattle.bands.specs.Bands.{nought}
+use Rattle.matrix.specs.Raw.{refused, limit}
 use Rattle.matrix.proofs.Distinct.{accepted}
 
 pub record Between (x : Float) : Type 0 where

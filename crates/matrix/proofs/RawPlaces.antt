@@ -11,10 +11,10 @@ use lib.ListN.{length, getD}
 use lib.Ieee.{Float, nan, lt}
 use Rattle.transform.specs.Kinds.{widthOf, heightOf, areaOf}
 use Rattle.bitstream.specs.Half.{half}
-use Rattle.matrix.specs.Raw.{weightOf, refused}
 use Rattle.matrix.specs.Mirror.{mirror, straightPlace, transposedPlace}
-use Rattle.matrix.specs.declared.Expanded.the-variants.{Done}
+use Rattle.matrix.specs.Raw.{weightOf, refused}
 use Rattle.matrix.specs.Weight.{weightsOf}
+use Rattle.matrix.specs.declared.Expanded.the-variants.{Done}
 use Rattle.matrix.specs.Expanded.{expandAnswer}
 use Rattle.matrix.proofs.Distinct.{half-coarse, larger, distinct}
 use Rattle.matrix.proofs.Said.{raw-at}

@@ -17,9 +17,10 @@ use Rattle.params.specs.Allowed.{allFine, allZero, countOk, entryRow, flagRow, 
 use Rattle.matrix.specs.declared.numbers.Numbers.{Numbers}
 use Rattle.matrix.specs.declared.Expanded.{Expanded}
 use Rattle.matrix.specs.declared.Expanded.the-variants.{Done, Band}
-use Rattle.matrix.specs.Numbers.{numbersOf, readNumbers, defaultNumbers, bandNumber, count}
-use Rattle.matrix.specs.Bands.{sound}
-use Rattle.matrix.specs.Weight.{Shaped}
+use Rattle.bands.specs.Bands.{sound}
+use Rattle.matrix.specs.Numbers.{numbersOf, readNumbers, defaultNumbers, listOf, count}
+use Rattle.matrix.specs.Views.{Shaped}
+use Rattle.bands.specs.Quant.{soundOf}
 use Rattle.matrix.specs.Expanded.{listAnswer, bandAnswer, orElse}
 use Rattle.matrix.proofs.Chain.{left, right}
 use Rattle.matrix.proofs.Meaning.{default-shaped}
@@ -128,7 +129,7 @@ module _ (k : ℕ) (row : List ℕ) (named : k < 17) (f : Facts k row) where
       let most : getD row 0 0 ≤ 6 = below s n7 in
       record {
         named = named;
-        few = record { one = count-few (leb 1 (lists (getD row 0 0))) (getD row 1 0) (f .first); two = count-few (leb 2 (lists (getD row 0 0))) (getD row 2 0) (f .second) };
+        few = record { first = count-few (leb 1 (lists (getD row 0 0))) (getD row 1 0) (f .first); second = count-few (leb 2 (lists (getD row 0 0))) (getD row 2 0) (f .second) };
         least = least;
         most = most;
         some = λ m. count-some (leb 1 (lists (getD row 0 0))) (getD row 1 0) (has-list (getD row 0 0) m most) (f .first);
@@ -161,7 +162,7 @@ raw-numbers row k e = ap (λ (x : ℕ). cond (eqb x 0) (defaultNumbers k) (readN
 
 no-list : (n : Numbers) (k c l : ℕ) → count n l ≡ 0 → listAnswer n k c l ≡ Done
 unfolding listAnswer sound
-no-list n k c l e = ap (λ (z : ℕ). cond (ltb (sound (bandNumber n l c) z) z) (Band k c (sound (bandNumber n l c) z)) Done) e
+no-list n k c l e = ap (λ (z : ℕ). cond (ltb (soundOf (listOf n l) z c) z) (Band k c (soundOf (listOf n l) z c)) Done) e
 
 no-bands : (n : Numbers) (k m : ℕ) → n .first ≡ 0 → n .second ≡ 0 → bandAnswer n k m ≡ Done
 unfolding bandAnswer

@@ -4,17 +4,19 @@ use mathlib.Core.List.{List}
 use Prim.Native.Nat.{ℕ, zero, suc, _+_, _-_, _*_, _/_, _%_, _≤_, _<_}
 use native.Mathlib.Nat.{div-add-mod', le-trans, le-of-eq}
 use native.Mathlib.Omega.{arith}
-use lib.Dec.{leb, leb→le, lit≤}
+use mathlib.Core.Bool.{Bool, true, false}
+use lib.Dec.{T}
 use lib.ListN.{length, getD}
 use lib.Ieee.{Float, nan}
 use Rattle.transform.specs.Kinds.{widthOf, heightOf, areaOf, placesOf}
-use Rattle.transform.proofs.Laws.{at, width-le, height-le}
-use Rattle.matrix.specs.Mirror.{tab}
-use Rattle.matrix.proofs.Lists.{getD-tab}
-use Rattle.matrix.specs.declared.numbers.Numbers.{Numbers}
+use Rattle.transform.proofs.Laws.{at}
+use Rattle.bands.specs.Quant.{kindHas, gridded, dctTable}
+use Rattle.bands.specs.Table.{tab}
 use Rattle.matrix.specs.Numbers.{numberOf, count}
-use Rattle.matrix.specs.Bands.{Grid}
-use Rattle.matrix.specs.Weight.{gridWeight, gridsOf, mode1, mode2, mode3, mode4, mode5, rule, rulesOf, Ready}
+use Rattle.matrix.specs.Views.{Grid, gridsOf, rulesOf, Ready}
+use Rattle.matrix.specs.Weight.{gridWeight, mode1, mode2, mode3, mode4, mode5, rule}
+use Rattle.bands.proofs.TableLaws.{getD-tab}
+use Rattle.matrix.specs.declared.numbers.Numbers.{Numbers}
 
 module _ (c q : ℕ) (hc : c < 3) (hq : q < 64) where
   four-in : c * 16 + (q / 16 * 4 + q % 8 / 2) < 48
@@ -42,7 +44,7 @@ module _ (c q : ℕ) (hc : c < 3) (hq : q < 64) where
   eight-column = omega arith
 
   pub four-cell : (n : Numbers) (l : ℕ) → getD (gridsOf n l 4 4) (c * 16 + (q / 16 * 4 + q % 8 / 2)) nan ≡ gridWeight n l c 4 4 (q / 8 / 2) (q % 8 / 2)
-  unfolding gridsOf
+  unfolding gridsOf gridWeight dctTable
   four-cell n l =
       let i = c * 16 + (q / 16 * 4 + q % 8 / 2) in
       getD-tab 48 (λ p. gridWeight n l (p / 16) 4 4 (p % 16 / 4) (p % 16 % 4)) (c * 16 + (q / 16 * 4 + q % 8 / 2)) nan four-in
@@ -51,7 +53,7 @@ module _ (c q : ℕ) (hc : c < 3) (hq : q < 64) where
       ∙ ap (λ (k : ℕ). gridWeight n l c 4 4 (q / 8 / 2) k) four-column
 
   pub eight-cell : (n : Numbers) (l : ℕ) → getD (gridsOf n l 8 4) (c * 32 + (q / 16 * 8 + q % 8)) nan ≡ gridWeight n l c 8 4 (q / 8 / 2) (q % 8)
-  unfolding gridsOf
+  unfolding gridsOf gridWeight dctTable
   eight-cell n l =
       getD-tab 96 (λ p. gridWeight n l (p / 32) 8 4 (p % 32 / 8) (p % 32 % 8)) (c * 32 + (q / 16 * 8 + q % 8)) nan eight-in
       ∙ ap (λ (k : ℕ). gridWeight n l k 8 4 ((c * 32 + (q / 16 * 8 + q % 8)) % 32 / 8) ((c * 32 + (q / 16 * 8 + q % 8)) % 32 % 8)) eight-channel
@@ -105,36 +107,40 @@ small-whole n k ew eh =
     area = unfold areaOf in (ap (λ (w : ℕ). w * heightOf k) ew ∙ ap (λ (h : ℕ). 8 * h) eh)
 
 pub grid-whole : (n : Numbers) (k w h : ℕ) → n .mode ≡ 6 → w ≡ widthOf k → h ≡ heightOf k → gridsOf n 0 w h ≡ rulesOf n k
-unfolding gridsOf rulesOf placesOf areaOf rule
+unfolding gridsOf gridWeight dctTable rulesOf placesOf areaOf rule
 grid-whole n k w h e ew eh =
     ap (λ (x : ℕ). gridsOf n 0 x h) ew ∙ ap (gridsOf n 0 (widthOf k)) eh
     ∙ subst (λ (m : ℕ). gridsOf n 0 (widthOf k) (heightOf k) ≡ tab (placesOf k) (λ p. rule n k (p / areaOf k) (p % areaOf k / widthOf k) (p % areaOf k % widthOf k) m)) (sym e) refl
 
-pub width-ge : (k : ℕ) → k < 17 → 2 ≤ widthOf k
-unfolding widthOf
-width-ge k h = leb→le 2 (widthOf k) (at (λ k. leb 2 (widthOf k)) 17 tt k h)
+-- ---- the grids
+kind-gridded : (k : ℕ) → k < 17 → gridded (widthOf k) (heightOf k) ≡ true
+unfolding gridded kindHas widthOf heightOf
+kind-gridded k h = yes (gridded (widthOf k) (heightOf k)) (at (λ k. gridded (widthOf k) (heightOf k)) 17 tt k h)
+  where
+    yes : (b : Bool) → T b → b ≡ true
+    yes true t = refl
+    yes false t = absurd t
 
-pub height-ge : (k : ℕ) → k < 17 → 2 ≤ heightOf k
-unfolding heightOf
-height-ge k h = leb→le 2 (heightOf k) (at (λ k. leb 2 (heightOf k)) 17 tt k h)
-
-pub whole-grid : (n : Numbers) (k w h size : ℕ) → Ready n k → 3 ≤ n .mode → w ≡ widthOf k → h ≡ heightOf k → size ≡ placesOf k → Grid (count n 0) w h size
+pub whole-grid : (n : Numbers) (k w h size : ℕ) → Ready n k → 3 ≤ n .mode → w ≡ widthOf k → h ≡ heightOf k → size ≡ placesOf k → Grid n 0 w h size
 unfolding placesOf areaOf
 whole-grid n k w h size r m ew eh e = record {
-  some = r .some m;
-  few = r .few .one;
-  wide = subst (λ (x : ℕ). 2 ≤ x) (sym ew) (width-ge k (r .named));
-  not-wider = subst (λ (x : ℕ). x ≤ 256) (sym ew) (width-le k);
-  high = subst (λ (x : ℕ). 2 ≤ x) (sym eh) (height-ge k (r .named));
-  not-higher = subst (λ (x : ℕ). x ≤ 256) (sym eh) (height-le k);
+  some = r .shaped .some m;
+  few = r .shaped .few .first;
+  grid = ap (λ (x : ℕ). gridded x h) ew ∙ ap (gridded (widthOf k)) eh ∙ kind-gridded k (r .shaped .named);
   all = e ∙ ap (λ (x : ℕ). 3 * (x * heightOf k)) (sym ew) ∙ ap (λ (x : ℕ). 3 * (w * x)) (sym eh);
 }
 
-pub small-grid : (n : Numbers) (k w : ℕ) → Ready n k → 3 ≤ n .mode → 2 ≤ w → w ≤ 8 → Grid (count n 0) w 4 (3 * (w * 4))
-small-grid n k w r m lo hi = record { some = r .some m; few = r .few .one; wide = lo; not-wider = omega arith; high = lit≤ tt; not-higher = lit≤ tt; all = refl }
+pub four-grid : (n : Numbers) (k : ℕ) → Ready n k → 3 ≤ n .mode → Grid n 0 4 4 48
+unfolding gridded
+four-grid n k r m = record { some = r .shaped .some m; few = r .shaped .few .first; grid = refl; all = refl }
 
-pub second-grid : (n : Numbers) (k : ℕ) → Ready n k → n .mode ≡ 5 → Grid (count n 1) 4 4 48
-second-grid n k r m = record { some = r .more m; few = r .few .two; wide = lit≤ tt; not-wider = lit≤ tt; high = lit≤ tt; not-higher = lit≤ tt; all = refl }
+pub eight-grid : (n : Numbers) (k : ℕ) → Ready n k → 3 ≤ n .mode → Grid n 0 8 4 96
+unfolding gridded
+eight-grid n k r m = record { some = r .shaped .some m; few = r .shaped .few .first; grid = refl; all = refl }
+
+pub second-grid : (n : Numbers) (k : ℕ) → Ready n k → n .mode ≡ 5 → Grid n 1 4 4 48
+unfolding gridded
+second-grid n k r m = record { some = r .shaped .more m; few = r .shaped .few .second; grid = refl; all = refl }
 
 pub small-places : (k : ℕ) → widthOf k ≡ 8 → heightOf k ≡ 8 → placesOf k ≡ 192
 unfolding placesOf areaOf

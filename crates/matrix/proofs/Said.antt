@@ -12,16 +12,16 @@ use lib.Ieee.{Float, nan, binary32, div}
 use Rattle.transform.specs.Kinds.{widthOf, areaOf, placesOf}
 use Rattle.bitstream.specs.Half.{half}
 use Rattle.params.specs.Allowed.{rowAllowed}
-use Rattle.segment.specs.Bands.{one}
-use Rattle.matrix.specs.Raw.{weightOf, nought}
-use Rattle.matrix.specs.Mirror.{tab}
+use Rattle.bands.specs.Bands.{one, nought}
+use Rattle.matrix.specs.Numbers.{numbersOf, readNumbers}
+use Rattle.matrix.specs.Raw.{weightOf}
+use Rattle.matrix.specs.Weight.{rule, weightIn, weightAt, weightsOf}
+use Rattle.bands.specs.Table.{tab}
 use Rattle.matrix.specs.declared.numbers.Numbers.{Numbers}
 use Rattle.matrix.specs.declared.Expanded.{Expanded}
 use Rattle.matrix.specs.declared.Expanded.the-variants.{Done, Lent, Row}
-use Rattle.matrix.specs.Numbers.{numbersOf, readNumbers}
-use Rattle.matrix.specs.Weight.{rule, weightIn, weightAt, weightsOf}
 use Rattle.matrix.specs.Expanded.{lentRight, weightAnswer, bandAnswer, orElse, kindAnswer, expandAnswer}
-use Rattle.matrix.proofs.Lists.{map-tab, tab-same, getD-tab}
+use Rattle.bands.proofs.TableLaws.{map-tab, tab-same, getD-tab}
 use Rattle.matrix.proofs.RowFacts.{Facts, raw-numbers, raw-bands}
 
 module _ (k : ℕ) (row : List ℕ) (zs : List ℤ) (s t : ℕ) where

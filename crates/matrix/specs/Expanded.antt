@@ -8,13 +8,13 @@ use lib.ListN.{length, getD, replicate}
 use lib.Ieee.{Float}
 use Rattle.transform.specs.Kinds.{areaOf, placesOf}
 use Rattle.params.specs.Allowed.{rowAllowed}
-use Rattle.matrix.specs.Raw.{nought}
+use Rattle.bands.specs.Bands.{nought}
+use Rattle.bands.specs.Quant.{soundOf}
 use Rattle.matrix.specs.Mirror.{passed}
 use Rattle.matrix.specs.declared.Expanded.{Expanded}
 use Rattle.matrix.specs.declared.Expanded.the-variants.{Done, Lent, Row, Band, Weight}
 use Rattle.matrix.specs.declared.numbers.Numbers.{Numbers}
-use Rattle.matrix.specs.Numbers.{numbersOf, bandNumber, count}
-use Rattle.matrix.specs.Bands.{sound}
+use Rattle.matrix.specs.Numbers.{numbersOf, listOf, count}
 use Rattle.matrix.specs.Weight.{weightsOf}
 
 -- document 01's number of a reply, and its values
@@ -52,8 +52,8 @@ lentRight k row n s t =
 
 -- BAND: of list l of channel c, the first band after band 0 that is refused
 unfoldable pub listAnswer : Numbers → ℕ → ℕ → ℕ → Expanded
-unfolding sound bandNumber
-listAnswer n k c l = let s = sound (bandNumber n l c) (count n l) in cond (ltb s (count n l)) (Band k c s) Done
+unfolding listOf
+listAnswer n k c l = let s = soundOf (listOf n l) (count n l) c in cond (ltb s (count n l)) (Band k c s) Done
 
 -- of the channels below a number, in order, first list before second
 unfoldable pub bandAnswer : Numbers → ℕ → ℕ → Expanded

@@ -1,22 +1,18 @@
--- A table by its places, a kind's weights transposed, and how many weights pass the test. Definitions only.
+-- A kind's places straight and transposed, its weights transposed, and how many weights pass the test. Definitions only.
 use mathlib.Core.Bool.{Bool, cond}
-use mathlib.Core.List.{List, [], _∷_, _++_, map}
-use Prim.Native.Nat.{ℕ, zero, suc, _+_, _*_, _/_, _%_}
-use lib.IntN.{ℤ}
-use lib.ListN.{length, getD}
+use mathlib.Core.List.{List, [], _∷_}
+use Prim.Native.Nat.{ℕ, suc, _+_, _*_, _/_, _%_}
+use lib.ListN.{getD}
 use lib.Ieee.{Float, nan}
 use Rattle.transform.specs.Kinds.{widthOf, heightOf, areaOf, placesOf}
-use Rattle.matrix.specs.Raw.{weightOf, refused}
+use Rattle.bands.specs.Table.{tab}
+use Rattle.matrix.specs.Raw.{refused}
 
--- the list of f 0, .., f (n - 1)
-abbrev pub tab : {A : Type 0} → ℕ → (ℕ → A) → List A
-tab zero f = []
-tab (suc n) f = tab n f ++ f n ∷ []
-
--- the place of channel c, row y, column x among a kind's places, straight and transposed
+-- the place of channel c, row y, column x among a kind's places, straight: channels in order, each in raster order
 abbrev pub straightPlace : ℕ → ℕ → ℕ → ℕ → ℕ
 straightPlace k c y x = c * areaOf k + (y * widthOf k + x)
 
+-- and transposed: column x height + row
 abbrev pub transposedPlace : ℕ → ℕ → ℕ → ℕ → ℕ
 transposedPlace k c y x = c * areaOf k + (x * heightOf k + y)
 

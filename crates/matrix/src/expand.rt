@@ -1,7 +1,7 @@
 // One kind, from its row and samples to the two outputs.
 use crate::Expanded;
-use crate::bands::band_answer;
-use crate::bands::is_done;
+use crate::lists::band_answer;
+use crate::lists::is_done;
 use crate::numbers::Numbers;
 use crate::numbers::numbers_of;
 use crate::outputs::clear;
@@ -18,7 +18,8 @@ ghost use lib.ListN.{length};
 ghost use Rattle.transform.specs.Kinds.{placesOf};
 ghost use Rattle.matrix.specs.Raw.{weightOf};
 ghost use Rattle.matrix.specs.Mirror.{mirror};
-ghost use Rattle.matrix.specs.Weight.{rulesOf, inverse, weightsOf, Shaped};
+ghost use Rattle.matrix.specs.Weight.{weightsOf};
+ghost use Rattle.matrix.specs.Views.{rulesOf, inverse, Shaped};
 ghost use Rattle.matrix.specs.Expanded.{bandAnswer, weightAnswer, orElse, leaves, samplesRight, lentRight, expandAnswer};
 
 // Modes 0 to 6: BAND, then WEIGHT; the outputs are all zero with either.

@@ -1,12 +1,10 @@
 // One kind's weights from its row.
-mod bands;
 mod corner;
 mod expand;
-mod grid;
+mod lists;
 mod numbers;
 mod outputs;
 mod raw;
-mod rules;
 mod small;
 mod whole;
 

@@ -3,7 +3,8 @@ use bitstream::half_to_f32;
 ghost use mathlib.Core.Path.{_≡_};
 ghost use Prim.Native.Nat.{_+_, _*_, _≤_, _<_};
 ghost use lib.ListN.{length};
-ghost use Rattle.matrix.specs.Numbers.{each, defaultValue, defaultNumbers, readNumbers, numbersOf, times64, leading, opening, numberOf, bandNumber, begins, count, Few};
+ghost use Rattle.matrix.specs.Numbers.{each, defaultValue, defaultNumbers, readNumbers, numbersOf, times64, leading, opening, numberOf, bandNumber, begins, count};
+ghost use Rattle.matrix.specs.Views.{Few};
 ghost use Rattle.matrix.specs.Defaults.{defaultMode, defaultFirst, defaultSecond};
 
 pub struct Numbers {
@@ -145,14 +146,14 @@ fn opens(read: bool, i: usize) -> bool
     i == 0
 }
 
-// Number i of channel c in list l.
-pub(crate) fn band_number(n: Numbers, l: usize, c: usize, i: usize) -> f32
-    requires { ⌜ Few n × (c < 3) × (i < 16) ⌝ }
-    ensures { λ r. ⌜ r ≡ bandNumber n l c i ⌝ }
+// Number j of list l, counted through its three channels.
+pub(crate) fn band_number(n: Numbers, l: usize, j: usize) -> f32
+    requires { ⌜ Few n × (j < 3 * count n l) ⌝ }
+    ensures { λ r. ⌜ r ≡ bandNumber n l j ⌝ }
 {
-    let at = begins_of(n, l) + c * count_of(n, l) + i;
+    let at = begins_of(n, l) + j;
     let values = n.values;
-    scaled(opens(n.read, i), values[at])
+    scaled(opens(n.read, j % count_of(n, l)), values[at])
 }
 
 // The defaults of each kind, in header order, 51 places a kind.

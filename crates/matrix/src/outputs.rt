@@ -6,9 +6,11 @@ ghost use Prim.Native.Nat.{_*_, _≤_, _<_};
 ghost use lib.ListN.{length, getD, replicate};
 ghost use lib.Ieee.{nan};
 ghost use Rattle.transform.specs.Kinds.{placesOf};
-ghost use Rattle.matrix.specs.Raw.{refused, nought};
-ghost use Rattle.matrix.specs.Mirror.{tab, turned, passed, mirror};
-ghost use Rattle.matrix.specs.Weight.{inverse};
+ghost use Rattle.bands.specs.Bands.{nought};
+ghost use Rattle.bands.specs.Table.{tab};
+ghost use Rattle.matrix.specs.Raw.{refused};
+ghost use Rattle.matrix.specs.Mirror.{turned, passed, mirror};
+ghost use Rattle.matrix.specs.Views.{inverse};
 ghost use Rattle.matrix.specs.Expanded.{weightAnswer, leaves};
 
 // Whether a weight is refused. A NaN fails both comparisons, so it has a test of its own.

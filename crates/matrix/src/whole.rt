@@ -1,8 +1,7 @@
 // A kind's places before they are inverted: modes 1 to 6.
 use crate::corner::mode5_at;
-use crate::grid::put;
+use crate::lists::fill_bands;
 use crate::numbers::Numbers;
-use crate::rules::fill_bands;
 use crate::small::mode1_at;
 use crate::small::mode2_at;
 use crate::small::mode3_at;
@@ -12,7 +11,9 @@ ghost use mathlib.Core.Path.{_≡_};
 ghost use Prim.Native.Nat.{_*_, _+_, _/_, _%_, _<_, _≤_};
 ghost use lib.ListN.{length};
 ghost use Rattle.transform.specs.Kinds.{placesOf};
-ghost use Rattle.matrix.specs.Weight.{rule, rulesOf, gridsOf, Ready, Grids};
+ghost use Rattle.bands.specs.Views.{putOf};
+ghost use Rattle.matrix.specs.Weight.{rule};
+ghost use Rattle.matrix.specs.Views.{rulesOf, gridsOf, Ready, Grids};
 
 // What stands at place q of channel c of an 8x8 kind.
 fn small_at(n: Numbers, kind: usize, eight: &[f32; 96], four: &[f32; 48], c: usize, q: usize) -> f32
@@ -34,6 +35,16 @@ fn small_at(n: Numbers, kind: usize, eight: &[f32; 96], four: &[f32; 48], c: usi
         return mode4_at(n, c, q, w);
     }
     mode5_at(n, c, q, w, four[c * 16 + (q / 16 * 4 + q % 8 / 2)])
+}
+
+// Place q of three channels.
+fn put(out: &mut [f32], area: usize, q: usize, v0: f32, v1: f32, v2: f32)
+    requires { ⌜ (q < area) × (length (now out) ≡ 3 * area) × (area ≤ 65536) ⌝ }
+    ensures { λ r. ⌜ now (out .exit) ≡ putOf (now (out .entry)) area q v0 v1 v2 ⌝ }
+{
+    out[q] = v0;
+    out[area + q] = v1;
+    out[area + area + q] = v2;
 }
 
 fn fill_small(out: &mut [f32], n: Numbers, kind: usize, eight: &[f32; 96], four: &[f32; 48])
@@ -92,6 +103,6 @@ pub(crate) fn fill_rules(out: &mut [f32], n: Numbers, kind: usize)
         let four = four_of(n, kind);
         fill_small(out, n, kind, &eight, &four);
     } else {
-        fill_bands(out, n, 0, k.width() as u16, k.height() as u16);
+        fill_bands(out, n, 0, k.width(), k.height());
     }
 }

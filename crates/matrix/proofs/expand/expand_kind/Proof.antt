@@ -5,11 +5,11 @@ use native.Mathlib.Omega.{arith}
 use borrow.Author.Tests.{not-true, not-false}
 use lib.ListN.{length}
 use lib.Ieee.{Float}
-use Rattle.matrix.specs.Raw.{weightOf}
 use Rattle.matrix.specs.Mirror.{mirror}
-use Rattle.matrix.specs.declared.numbers.Numbers.{Numbers}
 use Rattle.matrix.specs.Numbers.{numbersOf}
-use Rattle.matrix.specs.Weight.{rulesOf, inverse, Shaped}
+use Rattle.matrix.specs.Raw.{weightOf}
+use Rattle.matrix.specs.Views.{rulesOf, inverse, Shaped}
+use Rattle.matrix.specs.declared.numbers.Numbers.{Numbers}
 use Rattle.matrix.specs.Expanded.{bandAnswer, weightAnswer, orElse, leaves}
 use Rattle.matrix.proofs.Meaning.{meaning}
 use Rattle.matrix.proofs.Lending.{given}

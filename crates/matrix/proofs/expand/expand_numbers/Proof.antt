@@ -4,7 +4,7 @@ use mathlib.Core.List.{List}
 use lib.ListN.{length}
 use lib.Ieee.{Float}
 use Rattle.matrix.specs.Mirror.{mirror}
-use Rattle.matrix.specs.Weight.{rulesOf, inverse}
+use Rattle.matrix.specs.Views.{rulesOf, inverse}
 use Rattle.matrix.specs.Expanded.{weightAnswer, leaves}
 use Rattle.matrix.proofs.Answered.{ready, refused-answer, refused-leaves, done-answer, finish-leaves, inverse-length}
 use borrow.Author.Needs.{needs}
@@ -13,8 +13,8 @@ use Rattle.matrix.proofs.expand.expand_numbers.Tie as tie
 use Rattle.matrix.proofs.expand.expand_numbers.Reads as reads
 use Rattle.matrix.proofs.expand.expand_numbers.Lts as lts
 use Rattle.matrix.proofs.outputs.clear.Reads as clear-reads
-use Rattle.matrix.proofs.bands.band_answer.Reads as band-answer-reads
-use Rattle.matrix.proofs.bands.is_done.Reads as is-done-reads
+use Rattle.matrix.proofs.lists.band_answer.Reads as band-answer-reads
+use Rattle.matrix.proofs.lists.is_done.Reads as is-done-reads
 use Rattle.matrix.proofs.outputs.finish.Reads as finish-reads
 use Rattle.matrix.proofs.outputs.invert.Reads as invert-reads
 use Rattle.matrix.proofs.whole.fill_rules.Reads as fill-rules-reads

@@ -3,8 +3,8 @@ use mathlib.Core.Path.{_≡_, refl, sym, ap, _∙_, subst}
 use mathlib.Core.List.{List, map}
 use lib.ListN.{length, length-map}
 use lib.Ieee.{Float}
-use Rattle.matrix.specs.Raw.{weightOf}
 use Rattle.matrix.specs.Mirror.{mirror}
+use Rattle.matrix.specs.Raw.{weightOf}
 use Rattle.matrix.specs.Expanded.{weightAnswer, leaves}
 use Rattle.matrix.proofs.Answered.{finish-leaves}
 use borrow.Author.Needs.{needs}

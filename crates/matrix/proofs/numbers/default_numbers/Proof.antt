@@ -11,7 +11,7 @@ use borrow.Author.Needs.{needs}
 use lib.ListN.{length, getD}
 use lib.Seq.{sets}
 use Rattle.bitstream.specs.Half.{half}
-use Rattle.matrix.specs.Mirror.{tab}
+use Rattle.bands.specs.Table.{tab}
 use Rattle.matrix.specs.Numbers.{defaultValue}
 use Rattle.matrix.proofs.Front.{front-on, front-all}
 use Rattle.matrix.proofs.numbers.default_numbers.Statement.{statement}

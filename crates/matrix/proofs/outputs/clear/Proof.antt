@@ -6,9 +6,9 @@ use native.Mathlib.Nat.{zero-add}
 use lib.ListN.{length, set, length-set}
 use lib.Seq.{sets}
 use lib.Ieee.{ofBits}
-use Rattle.matrix.specs.Raw.{nought}
-use Rattle.matrix.specs.Mirror.{tab}
-use Rattle.matrix.proofs.Lists.{step-on, filled}
+use Rattle.bands.specs.Bands.{nought}
+use Rattle.bands.specs.Table.{tab}
+use Rattle.bands.proofs.TableLaws.{step-on, filled}
 use Rattle.matrix.proofs.outputs.clear.Statement.{statement}
 use Rattle.matrix.proofs.outputs.clear.Tie as tie
 

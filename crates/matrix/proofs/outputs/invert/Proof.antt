@@ -6,9 +6,9 @@ use borrow.Author.Needs.{needs}
 use lib.ListN.{length, getD, length-set}
 use lib.Seq.{sets}
 use lib.Ieee.{Float, nan, binary32, div, ofBits}
-use Rattle.segment.specs.Bands.{one}
-use Rattle.matrix.specs.Mirror.{tab}
-use Rattle.matrix.proofs.Lists.{map-tab}
+use Rattle.bands.specs.Bands.{one}
+use Rattle.bands.specs.Table.{tab}
+use Rattle.bands.proofs.TableLaws.{map-tab}
 use Rattle.matrix.proofs.Front.{front-on, front-all, front-past}
 use Rattle.matrix.proofs.outputs.invert.Statement.{statement}
 use Rattle.matrix.proofs.outputs.invert.Tie as tie

@@ -6,7 +6,8 @@ use lib.ListN.{length, getD, set, length-set}
 use lib.Seq.{sets}
 use Prim.Native.Nat.{_*_}
 use lib.Ieee.{Float, nan}
-use Rattle.matrix.specs.Mirror.{tab, turned}
+use Rattle.bands.specs.Table.{tab}
+use Rattle.matrix.specs.Mirror.{turned}
 use Rattle.matrix.proofs.Front.{front-on, front-all}
 use Rattle.matrix.proofs.Turned.{turned-lt}
 use Rattle.matrix.proofs.outputs.turn.Statement.{statement}

@@ -9,9 +9,9 @@ use lib.Ieee.{Float}
 use mathlib.Core.List.{List}
 use mir.Syntax.{w32}
 use mir.ValLaws.{toZ-ofZ}
+use Rattle.bands.specs.Table.{tab}
 use Rattle.matrix.specs.Raw.{weightOf}
-use Rattle.matrix.specs.Mirror.{tab}
-use Rattle.matrix.proofs.Lists.{map-tab}
+use Rattle.bands.proofs.TableLaws.{map-tab}
 use Rattle.matrix.proofs.Front.{front-on, front-all}
 use Rattle.matrix.proofs.raw.fill_raw.Statement.{statement}
 use Rattle.matrix.proofs.raw.fill_raw.Tie as tie

@@ -4,9 +4,9 @@ use Prim.Native.Nat.{ℕ, suc, _+_, _-_, _*_, _≤_, _<_}
 use native.Mathlib.Omega.{arith}
 use lib.Dec.{lit<, lit≤}
 use lib.ListN.{length}
-use Rattle.matrix.specs.Weight.{rule, rulesOf}
-use Rattle.matrix.proofs.Ruled.{ruled-1, ruled-2, ruled-3, ruled-4, small-whole, grid-whole, whole-grid, small-grid, small-places}
-use Rattle.transform.proofs.Laws.{width-le, height-le}
+use Rattle.matrix.specs.Views.{rulesOf}
+use Rattle.matrix.specs.Weight.{rule}
+use Rattle.matrix.proofs.Ruled.{ruled-1, ruled-2, ruled-3, ruled-4, small-whole, grid-whole, whole-grid, small-places}
 use borrow.Author.Needs.{needs}
 use Rattle.matrix.proofs.whole.fill_rules.Statement.{statement}
 use Rattle.matrix.proofs.whole.fill_rules.Tie as tie
@@ -14,7 +14,7 @@ use Rattle.matrix.proofs.whole.fill_rules.Reads as reads
 use Rattle.matrix.proofs.whole.fill_rules.Lts as lts
 use Rattle.transform.proofs.Kind.height.Reads as height-reads
 use Rattle.transform.proofs.Kind.width.Reads as width-reads
-use Rattle.matrix.proofs.rules.fill_bands.Reads as fill-bands-reads
+use Rattle.matrix.proofs.lists.fill_bands.Reads as fill-bands-reads
 use Rattle.matrix.proofs.whole.eight_of.Reads as eight-of-reads
 use Rattle.matrix.proofs.whole.fill_small.Reads as fill-small-reads
 use Rattle.matrix.proofs.whole.four_of.Reads as four-of-reads
@@ -33,23 +33,15 @@ fill-small-requires c κs =
     let a = c .before .before .before .before .before .before .before .before .args in
     let r = c .before .before .before .before .before .before .before .before .pre .0 in
     let m : a .n .mode < 6 = c .before .before .before .before .before .if1 .taken in
-    (r, m, record { eight = c .before .before .before .before .eight-of .ensures; four = c .before .before .before .four-of .ensures .0; second = c .before .before .before .four-of .ensures .1 }, c .before .before .before .before .before .before .before .before .pre .1 ∙ small-places (a .kind) (r .wide (omega arith)) (r .high (omega arith)))
+    (r, m, record { eight = c .before .before .before .before .eight-of .ensures; four = c .before .before .before .four-of .ensures .0; second = c .before .before .before .four-of .ensures .1 }, c .before .before .before .before .before .before .before .before .pre .1 ∙ small-places (a .kind) (r .shaped .wide (omega arith)) (r .shaped .high (omega arith)))
 
 -- src/whole.rt:85:31
 width-requires : tie.Need-width-requires
 width-requires c κs = search needs
 
--- src/whole.rt:85:31
-cast-fill-bands : tie.Need-cast-fill-bands
-cast-fill-bands c = let e = c .width .ensures in let l = width-le (c .before .before .before .before .before .args .kind) in record { fits = omega arith }
-
 -- src/whole.rt:85:49
 height-requires : tie.Need-height-requires
 height-requires c κs = search needs
-
--- src/whole.rt:85:49
-cast-fill-bands-2 : tie.Need-cast-fill-bands-2
-cast-fill-bands-2 c = let e = c .height .ensures in let l = height-le (c .before .before .before .before .before .before .args .kind) in record { fits = omega arith }
 
 -- src/whole.rt:85:9
 fill-bands-requires : tie.Need-fill-bands-requires
@@ -57,7 +49,7 @@ fill-bands-requires c κs =
     let a = c .before .before .before .before .before .before .args in
     let r = c .before .before .before .before .before .before .pre .0 in
     let m : 6 ≤ a .n .mode = c .before .before .before .if1 .left in
-    (r .few, (r .sound0, whole-grid (a .n) (a .kind) _ _ _ r (omega arith) (c .before .width .ensures) (c .height .ensures) (c .before .before .before .before .before .before .pre .1)))
+    (r .shaped .few, r .sound0, whole-grid (a .n) (a .kind) _ _ _ r (omega arith) (c .before .width .ensures) (c .height .ensures) (c .before .before .before .before .before .before .pre .1))
 
 -- src/whole.rt:75:1
 same-length : tie.Need-same-length
@@ -77,7 +69,7 @@ returns-2 c =
     let a = c .before .before .before .before .before .before .before .before .before .args in
     let r = c .before .before .before .before .before .before .before .before .before .pre .0 in
     let m : 6 ≤ a .n .mode = c .before .before .before .before .before .before .if1 .left in
-    let t = r .most in
+    let t = r .shaped .most in
     c .before .before .fill-bands .ensures ∙ grid-whole (a .n) (a .kind) _ _ (omega arith) (c .before .before .before .before .width .ensures) (c .before .before .before .height .ensures)
 
 pub fill-rules-spec : {M : Type 1} → statement M
@@ -88,9 +80,7 @@ fill-rules-spec =
     four-of-requires
     fill-small-requires
     width-requires
-    cast-fill-bands
     height-requires
-    cast-fill-bands-2
     fill-bands-requires
     same-length
     returns
