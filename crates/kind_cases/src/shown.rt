@@ -2,7 +2,6 @@
 use libc::STDOUT_FILENO;
 use matrix::Expanded;
 ghost use Prim.Native.Nat.{_≤_, _<_};
-ghost use lib.ListN.{length};
 
 // A hex digit's value; another byte counts as 0.
 fn digit(b: u8) -> u32
@@ -46,23 +45,19 @@ pub(crate) fn word(text: &[u8], k: usize) -> u32 {
     v
 }
 
-// Word k as a length, at most that of the largest kind.
-pub(crate) fn size(text: &[u8], k: usize) -> usize
-    ensures { λ r. ⌜ r ≤ 196608 ⌝ }
-{
-    let n = word(text, k) as usize;
-    if n < 196608 { n } else { 196608 }
+pub(crate) fn size(text: &[u8], k: usize) -> usize {
+    word(text, k) as usize
 }
 
 // Word k as it stands: a name.
 pub(crate) fn print_name(text: &[u8], k: usize) {
-    let mut name = [0u8; 8];
-    let mut i: usize = 0;
-    while i < 8 {
-        name[i] = byte(text, k, i);
-        i += 1;
+    if k < 8192 {
+        let at = 9 * k;
+        let end = at + 8;
+        if end <= text.len() {
+            io::write_all(STDOUT_FILENO, &text[at..end]);
+        }
     }
-    io::write_all(STDOUT_FILENO, &name);
 }
 
 pub(crate) fn print_number(n: u64) {
@@ -114,16 +109,15 @@ fn bits(x: f32) -> u32 {
     f32::to_bits(x)
 }
 
-fn term(x: f32, i: usize) -> u64
-    requires { ⌜ i ≤ 196608 ⌝ }
-{
-    (bits(x) as u64) * ((i + 1) as u64)
+fn term(x: f32, i: usize) -> u64 {
+    if i < 196608 {
+        return (bits(x) as u64) % 4294967296 * ((i + 1) as u64);
+    }
+    0
 }
 
 // The sum of bits x (place + 1), modulo 2 ^ 64.
-pub(crate) fn total(s: &[f32]) -> u64
-    requires { ⌜ length (now s) ≤ 196608 ⌝ }
-{
+pub(crate) fn total(s: &[f32]) -> u64 {
     let mut sum: u64 = 0;
     let mut i: usize = 0;
     while i < s.len() {

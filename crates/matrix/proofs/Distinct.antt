@@ -1,17 +1,17 @@
 -- Raw weights tell samples apart. For one denominator that is a multiple of 2 ^ -24, as every half float is (`half-coarse`), and samples of magnitude up to 8,388,607
 -- whose weights are accepted: the larger magnitude has the strictly larger weight (`larger`), and different samples have different weights (`distinct`). Assumes nothing.
 use mathlib.Core.Path.{_≡_, refl, sym, ap, _∙_, subst}
-use mathlib.Core.Logic.{⊎-elim, inl, inr}
+use mathlib.Core.Logic.{⊎-elim}
 use mathlib.Core.Bool.{Bool, true, false, not, _&&_, _||_, cond, true≢false}
-use Prim.Native.Nat.{ℕ, zero, suc, _+_, _*_, _^_, _≤_, _<_, compare, Ordering, Ordering·lt, Ordering·eq, Ordering·gt}
-use native.Mathlib.Nat.{le-trans, le-of-eq, le-suc, lt-trans, lt-of-lt-of-le, lt-of-le-of-lt, lt-irrefl, mul-one, one-mul, zero-mul, mul-le-mul-right, eq-zero-or-pos, mul-comm, mul-assoc, mul-left-comm, mul-right-comm, mul-lt-mul-of-pos-left, mul-pos, eq-or-lt-of-le}
+use Prim.Native.Nat.{ℕ, zero, suc, _+_, _*_, _^_, _≤_, _<_}
+use native.Mathlib.Nat.{le-trans, le-of-eq, lt-trans, lt-of-lt-of-le, lt-of-le-of-lt, lt-irrefl, mul-one, one-mul, zero-mul, mul-le-mul-right, eq-zero-or-pos, mul-comm, mul-assoc, mul-left-comm, mul-lt-mul-of-pos-left, mul-pos, eq-or-lt-of-le}
 use native.Mathlib.Omega.{arith}
-use lib.Dec.{T, ltb, leb, eqb, ltb→lt, lt→ltb, eqb-refl, lit<, lit≤}
+use lib.Dec.{T, ltb, eqb, ltb→lt, lt→ltb, lit<}
 use borrow.Author.Tests.{lt-ltb}
 use lib.IntN.{ℤ, pos, negsuc, natAbs}
 use lib.Pow.{pow-pos, pow-mono, shl-lt}
 use lib.Ieee.{Float, nan, inf, fin, Format, binary32, prec, emax, low, unlike, up, down, odd, units, round, mul, ofInt, lt, le, eq, ne}
-use lib.Ieee.Fits.{round-is, reach, down-pos, and-l, and-r}
+use lib.Ieee.Fits.{round-is, reach, down-pos}
 use lib.Ieee.Exact.{HasValue, round-exact}
 use lib.Ieee.Scale.{round-same, finite}
 use lib.Ieee.Positive.{num, den, den-pos, positive, positive-finite, first-pos, value-pos}

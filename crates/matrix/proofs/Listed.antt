@@ -1,15 +1,15 @@
 -- The numbers of a list in front of an array, and what the crate `bands` then says of them. Assumes nothing.
-use mathlib.Core.Path.{_≡_, refl, sym, ap, _∙_, subst}
-use mathlib.Core.Bool.{Bool, true}
+use mathlib.Core.Path.{_≡_, refl, sym, ap, _∙_}
+use mathlib.Core.Bool.{true}
 use mathlib.Core.List.{List}
-use Prim.Native.Nat.{ℕ, _+_, _*_, _≤_, _<_}
+use Prim.Native.Nat.{ℕ, _+_, _*_, _<_}
 use native.Mathlib.Nat.{le-of-eq}
 use borrow.Author.Tests.{eq-eqb}
 use lib.Dec.{eqb, lit<}
 use lib.ListN.{length, take}
 use lib.Ieee.{Float}
 use Rattle.bands.specs.Quant as quant
-use Rattle.bands.specs.Quant.{soundOf, dctTable, dctLeaves}
+use Rattle.bands.specs.Quant.{soundOf, dctLeaves}
 use Rattle.bands.specs.declared.quant.Banded.the-variants as banded
 use Rattle.bands.proofs.TableLaws.{length-tab}
 use Rattle.bands.proofs.QuantLaws.{lent-last, answer-none, answer-on, all-done}

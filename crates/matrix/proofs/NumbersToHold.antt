@@ -2,12 +2,11 @@
 use mathlib.Core.Path.{_≡_, refl}
 use mathlib.Core.Bool.{true, false}
 use mathlib.Core.List.{List}
-use Prim.Native.Nat.{ℕ}
 use lib.Dec.{lit<}
 use lib.IntN.{pos, negsuc}
 use lib.ListN.{getD}
 use lib.Ieee.{Float, nan, fin, mul, ofInt, le, ne, round}
-use Rattle.transform.specs.Kinds.{widthOf, heightOf, areaOf, placesOf}
+use Rattle.transform.specs.Kinds.{widthOf, heightOf, placesOf}
 use Rattle.bitstream.specs.Half.{half}
 use Rattle.matrix.specs.Mirror.{turned, mirror}
 use Rattle.matrix.specs.Raw.{weightOf, refused}

@@ -1,15 +1,15 @@
 -- The place theorem of one kind: two raw rows of one denominator, both expanded; where a sample of magnitude up to 8,388,607 differs, the weights differ
 -- at its place, straight and transposed, and the larger magnitude has the strictly larger weight. Document 01's range, -65,535 to 65,535, lies within. Assumes nothing.
-use mathlib.Core.Path.{_≡_, refl, sym, ap, _∙_, subst}
+use mathlib.Core.Path.{_≡_, sym, ap, _∙_}
 use mathlib.Core.Bool.{false}
 use mathlib.Core.List.{List}
 use Prim.Native.Nat.{ℕ, _+_, _*_, _^_, _≤_, _<_}
 use native.Mathlib.Nat.{lt-of-le-of-lt}
 use lib.Dec.{T, lit<}
 use lib.IntN.{ℤ, pos, natAbs}
-use lib.ListN.{length, getD}
+use lib.ListN.{getD}
 use lib.Ieee.{Float, nan, lt}
-use Rattle.transform.specs.Kinds.{widthOf, heightOf, areaOf}
+use Rattle.transform.specs.Kinds.{widthOf, heightOf}
 use Rattle.bitstream.specs.Half.{half}
 use Rattle.matrix.specs.Mirror.{mirror, straightPlace, transposedPlace}
 use Rattle.matrix.specs.Raw.{weightOf, refused}

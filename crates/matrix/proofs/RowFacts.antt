@@ -3,17 +3,16 @@ use mathlib.Core.Path.{_≡_, refl, sym, ap, _∙_, subst}
 use mathlib.Core.Logic.{⊎-elim}
 use mathlib.Core.Bool.{Bool, true, false, cond, not, _&&_, _||_, true≢false}
 use mathlib.Core.List.{List, [], _∷_}
-use Prim.Native.Nat.{ℕ, zero, suc, _+_, _≤_, _<_}
+use Prim.Native.Nat.{ℕ, zero, suc, _≤_, _<_}
 use native.Mathlib.Omega.{arith}
-use borrow.Author.Tests.{lt-ltb, le-ltb, le-leb, lt-leb, eq-eqb, ne-eqb, ltb-true, leb-true, eqb-true, eqb-false}
+use borrow.Author.Tests.{le-leb, lt-leb, ltb-true, leb-true, eqb-true, eqb-false}
 use lib.Dec.{T, leb, ltb, eqb, eqb→eq, lit<}
 use lib.ListN.{length, getD, take}
 use lib.Seq.{getD-take}
-use lib.Ieee.{Float}
 use Rattle.transform.specs.Kinds.{widthOf, heightOf}
 use Rattle.transform.proofs.Laws.{at}
 use Rattle.params.specs.Row.{lists, allowed}
-use Rattle.params.specs.Allowed.{allFine, allZero, countOk, entryRow, flagRow, rowAllowed}
+use Rattle.params.specs.Allowed.{allZero, countOk, entryRow, flagRow, rowAllowed}
 use Rattle.matrix.specs.declared.numbers.Numbers.{Numbers}
 use Rattle.matrix.specs.declared.Expanded.{Expanded}
 use Rattle.matrix.specs.declared.Expanded.the-variants.{Done, Band}

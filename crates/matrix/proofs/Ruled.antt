@@ -1,18 +1,18 @@
 -- The rule at a place by its mode, and all places of a kind. Assumes nothing.
 use mathlib.Core.Path.{_≡_, refl, sym, ap, _∙_, subst}
 use mathlib.Core.List.{List}
-use Prim.Native.Nat.{ℕ, zero, suc, _+_, _-_, _*_, _/_, _%_, _≤_, _<_}
-use native.Mathlib.Nat.{div-add-mod', le-trans, le-of-eq}
+use Prim.Native.Nat.{ℕ, _+_, _-_, _*_, _/_, _%_, _≤_, _<_}
+use native.Mathlib.Nat.{div-add-mod'}
 use native.Mathlib.Omega.{arith}
 use mathlib.Core.Bool.{Bool, true, false}
 use lib.Dec.{T}
-use lib.ListN.{length, getD}
+use lib.ListN.{getD}
 use lib.Ieee.{Float, nan}
 use Rattle.transform.specs.Kinds.{widthOf, heightOf, areaOf, placesOf}
 use Rattle.transform.proofs.Laws.{at}
 use Rattle.bands.specs.Quant.{kindHas, gridded, dctTable}
 use Rattle.bands.specs.Table.{tab}
-use Rattle.matrix.specs.Numbers.{numberOf, count}
+use Rattle.matrix.specs.Numbers.{numberOf}
 use Rattle.matrix.specs.Views.{Grid, gridsOf, rulesOf, Ready}
 use Rattle.matrix.specs.Weight.{gridWeight, mode1, mode2, mode3, mode4, mode5, rule}
 use Rattle.bands.proofs.TableLaws.{getD-tab}

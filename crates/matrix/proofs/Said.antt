@@ -1,5 +1,5 @@
 -- The answer of one kind by its tests, and its weights where the row is raw. Assumes nothing.
-use mathlib.Core.Path.{_≡_, refl, sym, ap, _∙_, subst}
+use mathlib.Core.Path.{_≡_, refl, sym, ap, _∙_}
 use mathlib.Core.Bool.{Bool, true, false, cond}
 use mathlib.Core.List.{List, map}
 use Prim.Native.Nat.{ℕ, _+_, _*_, _/_, _%_, _<_}
@@ -19,7 +19,7 @@ use Rattle.matrix.specs.Weight.{rule, weightIn, weightAt, weightsOf}
 use Rattle.bands.specs.Table.{tab}
 use Rattle.matrix.specs.declared.numbers.Numbers.{Numbers}
 use Rattle.matrix.specs.declared.Expanded.{Expanded}
-use Rattle.matrix.specs.declared.Expanded.the-variants.{Done, Lent, Row}
+use Rattle.matrix.specs.declared.Expanded.the-variants.{Lent, Row}
 use Rattle.matrix.specs.Expanded.{lentRight, weightAnswer, bandAnswer, orElse, kindAnswer, expandAnswer}
 use Rattle.bands.proofs.TableLaws.{map-tab, tab-same, getD-tab}
 use Rattle.matrix.proofs.RowFacts.{Facts, raw-numbers, raw-bands}

@@ -1,6 +1,6 @@
 -- `outputs::finish` by its two answers. Assumes nothing.
-use mathlib.Core.Path.{_≡_, refl, sym, ap, _∙_, subst}
-use Prim.Native.Nat.{ℕ, suc, _+_, _-_, _*_, _≤_, _<_}
+use mathlib.Core.Path.{refl}
+use Prim.Native.Nat.{_-_}
 use native.Mathlib.Omega.{arith}
 use lib.ListN.{length}
 use Rattle.transform.proofs.Laws.{area-le}
@@ -8,32 +8,19 @@ use Rattle.matrix.proofs.Lasts.{places-is, area-is, weight-refused, wei
 use borrow.Author.Needs.{needs}
 use Rattle.matrix.proofs.outputs.finish.Statement.{statement}
 use Rattle.matrix.proofs.outputs.finish.Tie as tie
-use Rattle.matrix.proofs.outputs.finish.Reads as reads
-use Rattle.matrix.proofs.outputs.finish.Lts as lts
-use Rattle.matrix.proofs.outputs.clear.Reads as clear-reads
-use Rattle.matrix.proofs.outputs.turn.Reads as turn-reads
-use Rattle.transform.proofs.Kind.area.Reads as area-reads
-use Rattle.transform.proofs.Kind.height.Reads as height-reads
-use Rattle.transform.proofs.Kind.width.Reads as width-reads
-use Rattle.matrix.proofs.outputs.passes.Reads as passes-reads
 
--- src/outputs.rt:45:9
 passes-requires : tie.Need-passes-requires
 passes-requires c κs = search needs
 
--- src/outputs.rt:47:9
 clear-requires : tie.Need-clear-requires
 clear-requires c κs = search needs
 
--- src/outputs.rt:48:9
 clear-requires-2 : tie.Need-clear-requires-2
 clear-requires-2 c κs = search needs
 
--- src/outputs.rt:49:13
 area-requires : tie.Need-area-requires
 area-requires c κs = search needs
 
--- src/outputs.rt:52:22
 div-t16 : tie.Need-div-t16
 div-t16 c =
     let a = c .before .before .before .before .before .before .before .before .before .before .before .before .before .before .args in
@@ -43,7 +30,6 @@ div-t16 c =
     let e = h .1 in
     omega (arith, c .before .before .before .before .before .before .before .before .before .if1 .taken)
 
--- src/outputs.rt:53:20
 rem-t17 : tie.Need-rem-t17
 rem-t17 c =
     let a = c .before .before .before .before .before .before .before .before .before .before .before .before .before .before .args in
@@ -53,15 +39,12 @@ rem-t17 c =
     let e = h .1 in
     omega (arith, c .before .before .before .before .before .before .before .before .before .if1 .taken)
 
--- src/outputs.rt:50:9
 same-length : tie.Need-same-length
 same-length c = search needs
 
--- src/outputs.rt:50:9
 same-length-2 : tie.Need-same-length-2
 same-length-2 c = search needs
 
--- src/outputs.rt:50:9
 returns : tie.Need-returns
 returns c =
     let a = c .before .before .before .before .before .before .before .before .before .before .before .before .before .before .args in (
@@ -69,15 +52,12 @@ returns c =
       (c .before .before .before .before .before .before .before .clear .ensures, c .before .before .before .clear2 .ensures),
     )
 
--- src/outputs.rt:56:42
 width-requires : tie.Need-width-requires
 width-requires c κs = search needs
 
--- src/outputs.rt:56:53
 height-requires : tie.Need-height-requires
 height-requires c κs = search needs
 
--- src/outputs.rt:56:5
 turn-requires : tie.Need-turn-requires
 turn-requires c κs =
     let a = c .before .before .before .before .before .before .before .before .before .args in
@@ -88,15 +68,12 @@ turn-requires c κs =
     let t = c .before .before .before .before .before .before .before .before .before .pre .2 in
     (omega arith, omega arith, omega arith)
 
--- src/outputs.rt:38:1
 same-length-3 : tie.Need-same-length-3
 same-length-3 c = search needs
 
--- src/outputs.rt:38:1
 same-length-4 : tie.Need-same-length-4
 same-length-4 c = search needs
 
--- src/outputs.rt:38:1
 returns-2 : tie.Need-returns-2
 returns-2 c =
     let a = c .before .before .before .before .before .before .before .before .before .before .before .before .args in (

@@ -1,19 +1,16 @@
 -- `outputs::passes`: the first i pass. Assumes nothing.
-use mathlib.Core.Path.{_≡_, refl, sym, ap, _∙_, subst}
-use Prim.Native.Nat.{ℕ, suc, _+_, _-_, _*_, _≤_, _<_}
+use mathlib.Core.Path.{_≡_, sym, ap, _∙_}
+use Prim.Native.Nat.{ℕ, suc, _+_, _-_, _≤_, _<_}
 use native.Mathlib.Omega.{arith}
 use borrow.Author.Needs.{needs}
 use native.Mathlib.Nat.{zero-add, add-zero}
 use native.Mathlib.Numerals.{add-one}
-use lib.ListN.{length, getD, drop}
-use lib.Ieee.{Float, nan}
+use lib.ListN.{length, drop}
+use lib.Ieee.{nan}
 use Rattle.matrix.specs.Mirror.{passed}
 use Rattle.matrix.proofs.Passed.{stops, goes-on, ends}
 use Rattle.matrix.proofs.outputs.passes.Statement.{statement}
 use Rattle.matrix.proofs.outputs.passes.Tie as tie
-use Rattle.matrix.proofs.outputs.passes.Reads as reads
-use Rattle.matrix.proofs.outputs.passes.Lts as lts
-use Rattle.matrix.proofs.outputs.refuses.Reads as refuses-reads
 
 shift : (a b : ℕ) → a + suc b ≡ a + 1 + b
 shift a b = omega arith
@@ -24,23 +21,18 @@ Inv-loop s i₀ i = (i ≤ length s) × (passed s ≡ i + passed (drop i s))
 abbrev μ-loop : tie.MeasureT-loop
 μ-loop s i₀ i = length s - i
 
--- src/outputs.rt:28:5
 loop-holds : tie.Need-loop-holds Inv-loop μ-loop
 loop-holds c = (omega arith, sym (zero-add _))
 
--- src/outputs.rt:29:27
 mul-refuses : tie.Need-mul-refuses Inv-loop μ-loop
 mul-refuses c = search needs
 
--- src/outputs.rt:29:27
 shared-slice-read-refuses : tie.Need-shared-slice-read-refuses Inv-loop μ-loop
 shared-slice-read-refuses c = search needs
 
--- src/outputs.rt:29:12
 refuses-requires : tie.Need-refuses-requires Inv-loop μ-loop
 refuses-requires c κs = search needs
 
--- src/outputs.rt:30:13
 returns : tie.Need-returns Inv-loop μ-loop
 returns c =
     let l = c .before .before .before .before .loop in
@@ -48,15 +40,12 @@ returns c =
     let h : l .i < length s = c .before .before .before .loop-test .taken in
     sym (l .inv .1 ∙ ap (λ (k : ℕ). l .i + k) (stops s (l .i) nan h (sym (c .before .refuses .ensures) ∙ c .if1 .taken)) ∙ add-zero (l .i))
 
--- src/outputs.rt:32:9
 add-i : tie.Need-add-i Inv-loop μ-loop
 add-i c = search needs
 
--- src/outputs.rt:28:5
 loop-less : tie.Need-loop-less Inv-loop μ-loop
 loop-less c = search needs
 
--- src/outputs.rt:28:5
 loop-again : tie.Need-loop-again Inv-loop μ-loop
 loop-again c =
     let l = c .before .before .before .before .loop in
@@ -67,7 +56,6 @@ loop-again c =
           ∙ ap (λ (k : ℕ). l .i + suc (passed (drop k s))) (sym (add-one (l .i))) ∙ shift (l .i) (passed (drop (l .i + 1) s)),
     )
 
--- src/outputs.rt:24:1
 returns-2 : tie.Need-returns-2 Inv-loop μ-loop
 returns-2 c =
     let l = c .before .loop in

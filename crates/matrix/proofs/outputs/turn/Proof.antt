@@ -1,11 +1,11 @@
 -- `outputs::turn` meets its contract. The invariant: the first p places of the part are the straight ones that they show. Assumes nothing.
-use mathlib.Core.Path.{_≡_, refl, sym, ap, _∙_, subst}
-use Prim.Native.Nat.{ℕ, _+_, _-_, _≤_, _<_}
+use mathlib.Core.Path.{_≡_, refl, ap, _∙_}
+use Prim.Native.Nat.{ℕ, _-_, _≤_, _<_}
 use native.Mathlib.Omega.{arith}
 use lib.ListN.{length, getD, set, length-set}
 use lib.Seq.{sets}
 use Prim.Native.Nat.{_*_}
-use lib.Ieee.{Float, nan}
+use lib.Ieee.{nan}
 use Rattle.bands.specs.Table.{tab}
 use Rattle.matrix.specs.Mirror.{turned}
 use Rattle.matrix.proofs.Front.{front-on, front-all}

@@ -1,13 +1,12 @@
 -- `outputs::turned_place` meets its contract. Assumes nothing.
-use mathlib.Core.Path.{_≡_, refl, sym, ap, _∙_, subst}
-use Prim.Native.Nat.{ℕ, _+_, _-_, _≤_, _<_}
+use mathlib.Core.Path.{refl}
+use Prim.Native.Nat.{_-_}
 use native.Mathlib.Omega.{arith}
 use native.Mathlib.Nat.{div-mul-le-self}
 use borrow.Author.Needs.{needs}
 use Prim.Native.Nat.{_*_}
 use Rattle.matrix.specs.Mirror.{turned}
 use Rattle.matrix.proofs.Turned.{height-pos, inner-lt, turned-lt}
-use borrow.Author.Needs.{needs}
 use Rattle.matrix.proofs.outputs.turned_place.Statement.{statement}
 use Rattle.matrix.proofs.outputs.turned_place.Tie as tie
 

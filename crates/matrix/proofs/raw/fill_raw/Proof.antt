@@ -1,12 +1,10 @@
 -- `raw::fill_raw` meets its contract. The invariant: the first i weights stand from `start` on. Assumes nothing.
-use mathlib.Core.Path.{_≡_, refl, sym, ap, _∙_, subst}
-use Prim.Native.Nat.{ℕ, _+_, _-_, _≤_, _<_}
+use mathlib.Core.Path.{_≡_, refl, sym, ap, _∙_}
+use Prim.Native.Nat.{_-_, _≤_}
 use native.Mathlib.Omega.{arith}
 use lib.ListN.{length, getD, set, length-set}
 use lib.Seq.{sets}
 use lib.IntN.{ℤ, pos}
-use lib.Ieee.{Float}
-use mathlib.Core.List.{List}
 use mir.Syntax.{w32}
 use mir.ValLaws.{toZ-ofZ}
 use Rattle.bands.specs.Table.{tab}
