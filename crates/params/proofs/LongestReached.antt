@@ -33,7 +33,7 @@ module _ (b : List ℕ) (row : ℕ → List ℕ) (f : ℕ → List Field) (w : (
       let e = entry-spelt b kind p (row kind) (f kind) (w kind) (spells-left b p (f kind) (fieldsFrom f n (kind + 1)) s) in
       let q = p + span (f kind) in
       let is : after b kind (Done p) rows ≡ gives (Done q) (putRow rows kind (row kind)) =
-          ap (kindIs kind rows) (e .1) ∙ ap (λ (t : Bool). gives (cond t (Raw kind q) (Done q)) (putRow rows kind (row kind))) (plain' kind) in
+      ap (kindIs kind rows) (e .1) ∙ ap (λ (t : Bool). gives (cond t (Raw kind q) (Done q)) (putRow rows kind (row kind))) (plain' kind) in
       ap (λ (o : Outcome). kinds b n (kind + 1) o .answer) is
       ∙ kinds-spelt n (kind + 1) q (putRow rows kind (row kind)) (spells-right b p (f kind) (fieldsFrom f n (kind + 1)) s)
       ∙ ap Done (omega (arith, span-append (f kind) (fieldsFrom f n (kind + 1))))

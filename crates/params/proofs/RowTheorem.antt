@@ -116,7 +116,7 @@ allowed-writes kind row s e =
 nothing-written : (kind : ℕ) → kind < 17 → (row : List ℕ) → ((rows : List ℕ) → length rows ≡ 2176 → rowAt rows kind ≡ row) → ⊥
 nothing-written kind h row f =
     let all : (a : ℕ) → getD (rowAt (replicate 2176 a) kind) 0 0 ≡ a =
-        λ a. getD-take 128 (drop (kind * 128) (replicate 2176 a)) 0 0 (omega arith) ∙ getD-drop (kind * 128) (replicate 2176 a) 0 0 ∙ getD-replicate 2176 (kind * 128 + 0) a 0 (omega arith) in
+    λ a. getD-take 128 (drop (kind * 128) (replicate 2176 a)) 0 0 (omega arith) ∙ getD-drop (kind * 128) (replicate 2176 a) 0 0 ∙ getD-replicate 2176 (kind * 128 + 0) a 0 (omega arith) in
     let is : (a : ℕ) → getD row 0 0 ≡ a = λ a. ap (λ (r : List ℕ). getD r 0 0) (sym (f (replicate 2176 a) (length-replicate 2176 a))) ∙ all a in
     omega (arith, is 0, is 1)
 
