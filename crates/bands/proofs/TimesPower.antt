@@ -1,0 +1,76 @@
+-- A float times 2 ^ k, where nothing overflows, is exact. Assumes nothing.
+use mathlib.Core.Path.{_≡_, refl, sym, ap, _∙_, subst}
+use Prim.Native.Nat.{ℕ, zero, suc, _+_, _-_, _*_, _/_, _%_, _^_, _≤_, _<_}
+use native.Mathlib.Nat.{le-trans, le-of-eq, le-of-lt, lt-of-lt-of-le, lt-of-le-of-lt, mul-one, one-mul, mul-assoc, mul-comm, mul-left-comm, mul-right-comm, mul-pos, eq-of-mul-eq-mul-right, le-of-suc-le-suc, lt-of-not-le, not-le-of-lt, lt-of-mul-lt-mul-right, mul-lt-mul-of-pos-right, zero-mul}
+use native.Mathlib.Omega.{arith}
+use mathlib.Core.Bool.{Bool, true, false, _&&_, true≢false}
+use lib.Dec.{T, eqb, ltb, leb, ltb→lt, leb→le, eqb→eq, lit<, lit≤}
+use lib.IntN.{ℤ, pos, negsuc}
+use lib.Pow.{pow-pos, pow-add, pow-lt}
+use lib.Ieee.{Float, nan, inf, fin, binary32, up, down, fits, mul, round}
+use lib.Ieee.Digits.{back}
+use lib.Ieee.Fits.{up-pos, down-pos, and-l, and-r}
+use lib.Ieee.Exact.{HasValue}
+use lib.Ieee.Scale.{grid, overflow, round-val}
+use Rattle.bands.proofs.Units.{exp-le, Units, grid-exact}
+use Rattle.bands.proofs.Position.{rescale}
+
+-- what `fits` says of the significand and of the exponent
+short : (s : Bool) (m : ℕ) (e : ℤ) → T (fits binary32 (fin s m e)) → (m < 2 ^ 24) × (down e ≤ 2 ^ 149)
+unfolding fits
+short s zero e t = (lit< tt, le-trans (one (up e) (down e) (up-pos e) (eqb→eq (up e * down e) 1 t)) (lit≤ tt))
+  where
+    one : (a b : ℕ) → 0 < a → a * b ≡ 1 → b ≤ 1
+    one a b A h = le-trans (le-trans (le-of-eq (sym (one-mul b))) (native.Mathlib.Nat.mul-le-mul-right b A)) (le-of-eq h)
+short s (suc m) e t =
+    let a = eqb (suc m % 2) 1 in
+    let b = ltb (suc m) (2 ^ 24) in
+    let c = leb (down e) (2 ^ 149) in
+    let d = ltb (suc m * up e) (2 ^ 128 * down e) in
+    let u = and-l (a && b && c) d t in
+    (ltb→lt (suc m) (2 ^ 24) (and-r a b (and-l (a && b) c u)), leb→le (down e) (2 ^ 149) (and-r (a && b) c u))
+
+-- 2 ^ e * 2 ^ (k + 149) is 2 ^ j
+place : (e : ℤ) (k : ℕ) → down e ≤ 2 ^ 149 → (j : ℕ) × (up e * (2 ^ k * 2 ^ 149) ≡ 2 ^ j * down e)
+place (pos i) k h = (i + (k + 149), ap (λ (z : ℕ). 2 ^ i * z) (sym (pow-add 2 k 149)) ∙ sym (pow-add 2 i (k + 149)) ∙ sym (mul-one (2 ^ (i + (k + 149)))))
+place (negsuc i) k h = (
+  k + (149 - suc i),
+  one-mul (2 ^ k * 2 ^ 149)
+      ∙ ap (λ (z : ℕ). 2 ^ k * z) (ap (λ (z : ℕ). 2 ^ z) (sym (back 149 (suc i) (exp-le (suc i) 149 h))) ∙ pow-add 2 (149 - suc i) (suc i))
+      ∙ sym (mul-assoc (2 ^ k) (2 ^ (149 - suc i)) (2 ^ suc i))
+      ∙ ap (λ (z : ℕ). z * 2 ^ suc i) (sym (pow-add 2 k (149 - suc i))),
+)
+
+pub times-power : (x : Float) (k a c : ℕ) → 0 < c → T (fits binary32 x) → HasValue x false a c → a * 2 ^ k < 2 ^ 128 * c → HasValue (mul binary32 x (fin false 1 (pos k))) false (a * 2 ^ k) c
+unfolding mul
+times-power nan k a c C f h o = absurd h
+times-power (inf s) k a c C f h o = absurd h
+times-power (fin true m e) k a c C f h o = absurd (true≢false (h .0))
+times-power (fin false m e) k a c C f h o =
+    let sh = short false m e f in
+    let pl = place e k (sh .1) in
+    let j = pl .0 in
+    let A = m * up e * (1 * 2 ^ k) in
+    let D = down e * 1 in
+    let dp : 0 < down e * 1 = mul-pos (down-pos e) (lit< tt) in
+    let num : m * up e * (1 * 2 ^ k) * 2 ^ 149 ≡ m * 2 ^ j * (down e * 1) =
+    mul-assoc (m * up e) (1 * 2 ^ k) (2 ^ 149)
+    ∙ ap (λ (z : ℕ). m * up e * (z * 2 ^ 149)) (one-mul (2 ^ k))
+    ∙ mul-assoc m (up e) (2 ^ k * 2 ^ 149)
+    ∙ ap (λ (z : ℕ). m * z) (pl .1)
+    ∙ sym (mul-assoc m (2 ^ j) (down e))
+    ∙ ap (λ (z : ℕ). m * 2 ^ j * z) (sym (mul-one (down e))) in
+    let g : grid binary32 (m * up e * (1 * 2 ^ k)) (down e * 1) ≡ m * 2 ^ j = grid-exact binary32 (m * up e * (1 * 2 ^ k)) (down e * 1) m j dp (le-of-lt (sh .0)) num in
+    -- a * 2 ^ k / c is m * 2 ^ j / 2 ^ 149
+    let same : a * 2 ^ k * 2 ^ 149 ≡ m * 2 ^ j * c =
+    eq-of-mul-eq-mul-right (down e) (down-pos e) (a * 2 ^ k * 2 ^ 149) (m * 2 ^ j * c)
+    (ap (λ (z : ℕ). z * down e) (mul-assoc a (2 ^ k) (2 ^ 149))
+    ∙ mul-right-comm a (2 ^ k * 2 ^ 149) (down e)
+    ∙ ap (λ (z : ℕ). z * (2 ^ k * 2 ^ 149)) (sym (h .1))
+    ∙ mul-right-comm (m * up e) c (2 ^ k * 2 ^ 149)
+    ∙ ap (λ (z : ℕ). z * c) (mul-assoc m (up e) (2 ^ k * 2 ^ 149) ∙ ap (λ (z : ℕ). m * z) (pl .1) ∙ sym (mul-assoc m (2 ^ j) (down e)))
+    ∙ mul-right-comm (m * 2 ^ j) (down e) c) in
+    let small : m * 2 ^ j < overflow binary32 =
+    lt-of-mul-lt-mul-right c (lt-of-le-of-lt (le-of-eq (sym same)) (lt-of-lt-of-le (mul-lt-mul-of-pos-right o (pow-pos 149)) (le-of-eq (mul-right-comm (2 ^ 128) c (2 ^ 149))))) in
+    rescale (round binary32 false (m * up e * (1 * 2 ^ k)) (down e * 1)) (m * 2 ^ j) (2 ^ 149) (a * 2 ^ k) c (pow-pos 149) same
+    (subst (Units binary32 (round binary32 false (m * up e * (1 * 2 ^ k)) (down e * 1))) g (round-val binary32 (m * up e * (1 * 2 ^ k)) (down e * 1) (subst (λ (z : ℕ). z < overflow binary32) (sym g) small)))

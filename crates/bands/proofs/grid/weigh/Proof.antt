@@ -1,0 +1,31 @@
+-- `grid::weigh` is `segmentWeight`. Assumes nothing.
+use mathlib.Core.Path.{_≡_, refl, sym, ap, _∙_, subst}
+use Prim.Native.Nat.{ℕ}
+use lib.Ieee.{Float, binary32, mul, div}
+use Rattle.bands.specs.Power.{P}
+use Rattle.bands.specs.Weights.{segmentWeight}
+use borrow.Author.Needs.{needs}
+use Rattle.bands.proofs.grid.weigh.Statement.{statement}
+use Rattle.bands.proofs.grid.weigh.Tie as tie
+use Rattle.bands.proofs.grid.weigh.Reads as reads
+use Rattle.bands.proofs.grid.weigh.Lts as lts
+use Rattle.bands.proofs.grid.steps.Reads as steps-reads
+use Rattle.bands.proofs.own_power.power_at.Reads as power-at-reads
+
+-- src/grid.rt:30:31
+steps-requires : tie.Need-steps-requires
+steps-requires c κs = search needs
+
+-- src/grid.rt:30:9
+power-at-requires : tie.Need-power-at-requires
+power-at-requires c κs = search needs
+
+-- src/grid.rt:23:1
+returns : tie.Need-returns
+unfolding segmentWeight
+returns c =
+    let s = c .before .before .before .args .s in
+    ap (λ (y : Float). mul binary32 (s .a) y) (c .power-at .ensures ∙ ap (λ (n : ℕ). P (div binary32 (s .b) (s .a)) n) (c .before .steps .ensures))
+
+pub weigh-spec : {M : Type 1} → statement M
+weigh-spec = tie.close (tie.spec steps-requires power-at-requires returns)
