@@ -7,7 +7,7 @@ use native.Mathlib.Omega.{arith}
 use lib.Dec.{T, leb, ltb, eqb, leb→le, ltb→lt, eqb→eq, lit<, not-T, le→leb, lt→ltb}
 use borrow.Author.Tests.{lt-leb, ne-eqb}
 use lib.Pow.{pow-pos}
-use lib.Ieee.{Float, nan, inf, fin, Format, binary32, prec, low, hid, ones, top, odd, fits, toBits, ofBits, ofFields, isNan, ne}
+use lib.Ieee.{Float, nan, inf, fin, Format, binary32, prec, low, hid, ones, top, odd, fits, toBits, ofBits, ofFields, isNan, ne, div}
 use lib.Ieee.Bits.{ofBits-toBits}
 use lib.Ieee.Fits.{and-i, and-l, and-r}
 use lib.Ieee.Compare.{nan-differs}
@@ -112,3 +112,8 @@ unfolding isNan
 same-is-number nan e = absurd (false≢true (sym e ∙ nan-differs))
 same-is-number (inf s) e = tt
 same-is-number (fin s m d) e = tt
+
+-- 0.0 / 0.0, as the code writes a NaN
+pub no-quotient : div binary32 (ofBits binary32 0) (ofBits binary32 0) ≡ nan
+unfolding div ofBits
+no-quotient = refl

@@ -24,3 +24,6 @@ pub mod MultRange
 pub mod TableLaws
 pub mod Laid
 pub mod Cells
+pub mod Sound
+pub mod Freqs
+pub mod Agree

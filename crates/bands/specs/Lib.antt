@@ -6,5 +6,6 @@ pub mod Bands
 pub mod Distance
 pub mod Position
 pub mod Weights
+pub mod Freqs
 pub mod Table
 pub mod Views

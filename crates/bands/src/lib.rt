@@ -1,4 +1,5 @@
 // Bands and the weights between them: whole root, correctly rounded root, document 01's own power, `mult`, band lists, distance, position, segment and interpolation.
+mod freq;
 mod grid;
 mod list;
 mod own_power;
@@ -6,7 +7,9 @@ mod root;
 mod spot;
 mod whole;
 
+pub use freq::freq_weight;
 pub use list::mult;
+pub use list::sound_bands;
 pub use own_power::power;
 pub use root::root32;
 pub use whole::whole_root;

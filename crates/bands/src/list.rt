@@ -21,3 +21,38 @@ fn bars(b: f32) -> bool
     }
     b >= 1.0 / 0.0
 }
+// How many bands stand before the first that is refused: all, where none is.
+pub fn sound_bands(numbers: &[f32]) -> usize
+    ensures { λ r. ⌜ r ≡ sound (atOf (now (numbers .entry))) (length (now (numbers .entry))) ⌝ }
+{
+    if numbers.len() == 0 {
+        return 0;
+    }
+    let mut last = numbers[0];
+    let mut i: usize = 1;
+    while i < numbers.len() {
+        last = last * mult(numbers[i]);
+        if bars(last) {
+            return i;
+        }
+        i += 1;
+    }
+    i
+}
+
+// The bands of up to 16 numbers; past them zeros.
+pub(crate) fn bands_of(numbers: &[f32]) -> [f32; 16]
+    requires { ⌜ (1 ≤ length (now numbers)) × (length (now numbers) ≤ 16) ⌝ }
+    ensures { λ r. ⌜ Banding (atOf (now (numbers .entry))) (length (now (numbers .entry))) r ⌝ }
+{
+    let mut bands = [0.0f32; 16];
+    let mut last = numbers[0];
+    bands[0] = last;
+    let mut i: usize = 1;
+    while i < numbers.len() {
+        last = last * mult(numbers[i]);
+        bands[i] = last;
+        i += 1;
+    }
+    bands
+}

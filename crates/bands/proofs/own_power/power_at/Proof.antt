@@ -1,15 +1,11 @@
 -- `power::power_at` meets its contract. Assumes nothing.
 use mathlib.Core.Path.{_≡_, refl, sym, ap, _∙_, subst}
 use Prim.Native.Nat.{ℕ}
-use lib.Ieee.{Float, nan, binary32, div, ofBits}
+use Rattle.bands.proofs.Fields.{no-quotient}
 use Rattle.bands.proofs.Accuracy.{not-chosen}
 use Rattle.bands.proofs.RatioLaws.{none-of-zero, ratio-chain, ratio-high, ratio-least, ratio-most, ratio-power}
 use Rattle.bands.proofs.own_power.power_at.Statement.{statement}
 use Rattle.bands.proofs.own_power.power_at.Tie as tie
-
-no-quotient : div binary32 (ofBits binary32 0) (ofBits binary32 0) ≡ nan
-unfolding div ofBits
-no-quotient = refl
 
 returns : tie.Need-returns
 returns c =
