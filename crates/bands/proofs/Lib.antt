@@ -27,3 +27,4 @@ pub mod Cells
 pub mod Sound
 pub mod Freqs
 pub mod Agree
+pub mod QuantLaws

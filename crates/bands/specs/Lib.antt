@@ -8,4 +8,5 @@ pub mod Position
 pub mod Weights
 pub mod Freqs
 pub mod Table
+pub mod Quant
 pub mod Views

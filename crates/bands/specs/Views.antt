@@ -1,6 +1,6 @@
 -- What private functions ask of and promise each other. No public contract cites these. Definitions only.
 use mathlib.Core.Path.{_≡_}
-use mathlib.Core.Bool.{false, cond}
+use mathlib.Core.Bool.{Bool, true, false, cond}
 use mathlib.Core.List.{List, [], _∷_}
 use Prim.Native.Nat.{ℕ, zero, suc, _+_, _-_, _*_, _/_, _%_, _^_, _≤_, _<_}
 use lib.IntN.{pos}
@@ -15,6 +15,8 @@ use Rattle.bands.specs.Position.{positionOf, indexOf, Cut}
 use Rattle.bands.specs.Weights.{bandWeight}
 use Rattle.bands.specs.Table.{tab}
 use Rattle.bands.specs.declared.own_power.Ratio.{Ratio}
+use Rattle.bands.specs.declared.quant.Banded.{Banded}
+use Rattle.bands.specs.declared.quant.Banded.the-variants.{Done, Lent, Band}
 use Rattle.bands.specs.declared.spot.Segment.{Segment}
 
 -- ---- roots
@@ -108,3 +110,9 @@ gridOf a b c n w h = tab (3 * (w * h)) (λ p. gridCell a b c n w h (p / (w * h))
 -- the bands of n numbers, in an array
 pub record Banding (ps : ℕ → Float) (n : ℕ) (l : List Float) : Type 0 where
   pub each : (i : ℕ) → i < n → getD l i nan ≡ bandAt ps i
+
+-- ---- answers
+abbrev pub isDone : Banded → Bool
+isDone Done = true
+isDone Lent = false
+isDone (Band c i) = false
