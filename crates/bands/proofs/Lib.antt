@@ -25,6 +25,11 @@ pub mod TableLaws
 pub mod Laid
 pub mod Cells
 pub mod Sound
+pub mod Signs
+pub mod Formed
 pub mod Freqs
 pub mod Agree
 pub mod QuantLaws
+pub mod Halves
+pub mod Numbers
+pub mod Asserts

@@ -16,7 +16,7 @@ use Rattle.bands.proofs.Units.{exp-le, Units, grid-exact}
 use Rattle.bands.proofs.Position.{rescale}
 
 -- what `fits` says of the significand and of the exponent
-short : (s : Bool) (m : ℕ) (e : ℤ) → T (fits binary32 (fin s m e)) → (m < 2 ^ 24) × (down e ≤ 2 ^ 149)
+pub short : (s : Bool) (m : ℕ) (e : ℤ) → T (fits binary32 (fin s m e)) → (m < 2 ^ 24) × (down e ≤ 2 ^ 149)
 unfolding fits
 short s zero e t = (lit< tt, le-trans (one (up e) (down e) (up-pos e) (eqb→eq (up e * down e) 1 t)) (lit≤ tt))
   where
@@ -31,7 +31,7 @@ short s (suc m) e t =
     (ltb→lt (suc m) (2 ^ 24) (and-r a b (and-l (a && b) c u)), leb→le (down e) (2 ^ 149) (and-r (a && b) c u))
 
 -- 2 ^ e * 2 ^ (k + 149) is 2 ^ j
-place : (e : ℤ) (k : ℕ) → down e ≤ 2 ^ 149 → (j : ℕ) × (up e * (2 ^ k * 2 ^ 149) ≡ 2 ^ j * down e)
+pub place : (e : ℤ) (k : ℕ) → down e ≤ 2 ^ 149 → (j : ℕ) × (up e * (2 ^ k * 2 ^ 149) ≡ 2 ^ j * down e)
 place (pos i) k h = (i + (k + 149), ap (λ (z : ℕ). 2 ^ i * z) (sym (pow-add 2 k 149)) ∙ sym (pow-add 2 i (k + 149)) ∙ sym (mul-one (2 ^ (i + (k + 149)))))
 place (negsuc i) k h = (
   k + (149 - suc i),
