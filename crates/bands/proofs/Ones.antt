@@ -9,13 +9,11 @@ use lib.IntN.{pos}
 use lib.Pow.{pow-pos}
 use lib.Ieee.{Float, fin, binary32, round, fits, toBits, ofBits}
 use Rattle.bands.specs.Root.{IsRoot}
+use Rattle.bands.specs.Bands.{one}
 use Rattle.bands.proofs.Roots.{root-unique}
 use Rattle.bands.specs.Power.{chain, products, field, scaled, normal, turns, mantissa, powerOf, P}
 use Rattle.bands.proofs.Chains.{chain-root, by-digit}
 use Rattle.bands.proofs.Accuracy.{chosen}
-
-abbrev pub one : Float
-one = fin false 1 (pos 0)
 
 -- the chain from 2 ^ 31 stays there, and its products change nothing
 chain-one : (j : ℕ) → chain (2 ^ 31) j ≡ 2 ^ 31
