@@ -11,12 +11,13 @@ use lib.Dec.{T, leb, ltb, eqb, leb→le, eqb→eq, lt→ltb, lit<, lit≤}
 use lib.IntN.{ℤ, pos}
 use lib.Pow.{pow-pos, pow-add, pow-lt}
 use lib.Ieee.{Float, nan, inf, fin, binary32, up, down, unlike, fits, round, mul, div, neg}
-use lib.Ieee.Fits.{down-pos, and-l, and-r}
+use lib.Ieee.Fits.{down-pos, and-l, and-r, div-fits}
 use lib.Ieee.Exact.{HasValue, round-exact}
 use lib.Ieee.Scale.{grid, overflow, finite}
 use lib.Ieee.Positive.{num, den, positive, positive-finite, positive-of-value, first-pos}
 use Rattle.bitstream.proofs.HalfLaws.{mul-values}
-use Rattle.bands.specs.Power.{normal}
+use Rattle.bands.specs.Close.{Close}
+use Rattle.bands.specs.Power.{normal, P}
 use Rattle.bands.specs.Bands.{multOf, bandAt, barred, sound}
 use Rattle.bands.proofs.Units.{Units, grid-exact, mul-units}
 use Rattle.bands.proofs.Ranged.{Banded, round-banded}
@@ -24,6 +25,7 @@ use Rattle.bands.proofs.MultRange.{mild, Whole, whole-number, mult-band
 use Rattle.bands.proofs.Sound.{all-sound, opened, first-band}
 use Rattle.bands.proofs.Signs.{product-above, neg-mul, neg-div}
 use Rattle.bands.proofs.BandRatios.{ratio-normal}
+use Rattle.bands.proofs.Accuracy.{accurate}
 
 abbrev pub ratioAt : (ℕ → Float) → ℕ → Float
 ratioAt ps i = div binary32 (bandAt ps (i + 1)) (bandAt ps i)
@@ -228,3 +230,8 @@ own-formed ps o i h = go (kinds (ps 0) (o .first))
     go (inl z) = inr (z, zero-over (bandAt ps (i + 1)) (bandAt ps i) (zero-bands ps o z (i + 1) (omega arith)) (zero-bands ps o z i (omega arith)))
     go (inr (inl p)) = inl (own-above ps (o .held) (o .later) (o .first) p i h)
     go (inr (inr p)) = inl (subst (λ (x : Float). T (normal x)) (turned-ratio ps i) (own-above (turned ps) turned-held turned-later (p .1) (p .0) i h))
+
+-- ---- so P of every ratio that a list forms is within one part in 1,000,000 of the true power
+pub formed-accurate : (ps : ℕ → Float) (n : ℕ) → Given ps n → sound ps n ≡ n → (i k : ℕ) → i + 1 < n → k < 2 ^ 32
+    → Close (num (ratioAt ps i)) (den (ratioAt ps i)) k (num (P (ratioAt ps i) k)) (den (P (ratioAt ps i) k))
+formed-accurate ps n g s i k h l = accurate (ratioAt ps i) k (div-fits binary32 (bandAt ps (i + 1)) (bandAt ps i)) (ratio-formed ps n g s i h) l

@@ -9,12 +9,16 @@ fn next(x: u64) -> u64
     (x * 1664525 + 1013904223) % 4294967296
 }
 
+fn wide(x: u32) -> u64 {
+    x as u64
+}
+
 // The bits of a float; 2143289344 for a NaN.
 fn bits(x: f32) -> u64 {
     if x != x {
         return 2143289344;
     }
-    f32::to_bits(x) as u64
+    wide(f32::to_bits(x))
 }
 
 fn word(n: u64) {

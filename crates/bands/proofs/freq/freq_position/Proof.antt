@@ -11,30 +11,22 @@ use Rattle.bands.proofs.Freqs.{freq-position}
 use borrow.Author.Needs.{needs}
 use Rattle.bands.proofs.freq.freq_position.Statement.{statement}
 use Rattle.bands.proofs.freq.freq_position.Tie as tie
-use Rattle.bands.proofs.freq.freq_position.Reads as reads
-use Rattle.bands.proofs.freq.freq_position.Lts as lts
 
--- src/corner.rt:24:6
 mul-result : tie.Need-mul-result
 mul-result c = search needs
 
--- src/corner.rt:24:6
 array-read-result : tie.Need-array-read-result
 array-read-result c = search needs
 
--- src/corner.rt:24:17
 array-read-result-2 : tie.Need-array-read-result-2
 array-read-result-2 c = search needs
 
--- src/corner.rt:24:36
 array-read-result-3 : tie.Need-array-read-result-3
 array-read-result-3 c = search needs
 
--- src/corner.rt:24:48
 array-read-result-4 : tie.Need-array-read-result-4
 array-read-result-4 c = search needs
 
--- src/corner.rt:20:1
 returns : tie.Need-returns
 returns c = freq-position (c .args .k) _ (c .pre)
 

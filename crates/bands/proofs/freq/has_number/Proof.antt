@@ -3,22 +3,16 @@ use mathlib.Core.Path.{_≡_, refl, sym, ap, _∙_, subst}
 use Rattle.bands.proofs.Freqs.{off-low, off-four, off-five, on-else}
 use Rattle.bands.proofs.freq.has_number.Statement.{statement}
 use Rattle.bands.proofs.freq.has_number.Tie as tie
-use Rattle.bands.proofs.freq.has_number.Reads as reads
-use Rattle.bands.proofs.freq.has_number.Lts as lts
 
--- src/freq.rt:43:9
 returns : tie.Need-returns
 returns c = off-low (c .before .args .k) (c .if1 .taken)
 
--- src/freq.rt:46:9
 returns-2 : tie.Need-returns-2
 returns-2 c = off-four (c .before .before .args .k) (c .if2 .taken)
 
--- src/freq.rt:49:9
 returns-3 : tie.Need-returns-3
 returns-3 c = off-five (c .before .before .before .args .k) (c .if3 .taken)
 
--- src/freq.rt:39:1
 returns-4 : tie.Need-returns-4
 returns-4 c = on-else (c .before .before .before .args .k) (c .before .before .if1 .left) (c .before .if2 .left) (c .if3 .left)
 

@@ -7,20 +7,13 @@ use Rattle.bands.specs.Weights.{segmentWeight}
 use borrow.Author.Needs.{needs}
 use Rattle.bands.proofs.grid.weigh.Statement.{statement}
 use Rattle.bands.proofs.grid.weigh.Tie as tie
-use Rattle.bands.proofs.grid.weigh.Reads as reads
-use Rattle.bands.proofs.grid.weigh.Lts as lts
-use Rattle.bands.proofs.grid.steps.Reads as steps-reads
-use Rattle.bands.proofs.own_power.power_at.Reads as power-at-reads
 
--- src/grid.rt:30:31
 steps-requires : tie.Need-steps-requires
 steps-requires c κs = search needs
 
--- src/grid.rt:30:9
 power-at-requires : tie.Need-power-at-requires
 power-at-requires c κs = search needs
 
--- src/grid.rt:23:1
 returns : tie.Need-returns
 unfolding segmentWeight
 returns c =

@@ -9,16 +9,10 @@ use Rattle.bands.proofs.Cells.{stepped}
 use borrow.Author.Needs.{needs}
 use Rattle.bands.proofs.grid.weigh_at.Statement.{statement}
 use Rattle.bands.proofs.grid.weigh_at.Tie as tie
-use Rattle.bands.proofs.grid.weigh_at.Reads as reads
-use Rattle.bands.proofs.grid.weigh_at.Lts as lts
-use Rattle.bands.proofs.grid.weigh.Reads as weigh-reads
-use Rattle.bands.proofs.spot.cut_at.Reads as cut-at-reads
 
--- src/grid.rt:47:11
 cut-at-requires : tie.Need-cut-at-requires
 cut-at-requires c κs = search needs
 
--- src/grid.rt:47:5
 weigh-requires : tie.Need-weigh-requires
 weigh-requires c κs =
     let e = c .cut-at .ensures in (
@@ -26,7 +20,6 @@ weigh-requires c κs =
       subst (λ (s : Segment). c .before .args .r ≡ ratioOf (div binary32 (s .b) (s .a))) (sym e) (c .before .pre .1),
     )
 
--- src/grid.rt:42:1
 returns : tie.Need-returns
 unfolding between
 returns c = c .weigh .ensures ∙ ap (λ (s : Segment). segmentWeight (s .a) (s .b) (s .fraction)) (c .before .cut-at .ensures)

@@ -5,15 +5,11 @@ use lib.Ieee.{inf, le, div, ofBits}
 use Rattle.bands.specs.Bands.{barred}
 use Rattle.bands.proofs.list.bars.Statement.{statement}
 use Rattle.bands.proofs.list.bars.Tie as tie
-use Rattle.bands.proofs.list.bars.Reads as reads
-use Rattle.bands.proofs.list.bars.Lts as lts
 
--- src/bands.rt:18:9
 returns : tie.Need-returns
 unfolding barred ofBits
 returns c = sym (ap (λ (t : Bool). t || le (inf false) (c .before .args .b)) (c .if1 .taken))
 
--- src/bands.rt:14:1
 returns-2 : tie.Need-returns-2
 unfolding barred ofBits div
 returns-2 c = sym (ap (λ (t : Bool). t || le (inf false) (c .before .args .b)) (c .if1 .left))

@@ -8,10 +8,6 @@ use Rattle.bands.specs.Bands.{atOf}
 use Rattle.bands.proofs.Sound.{Sounding, none-sound, sounding-one, sounding-more, sounding-stop, sounding-all}
 use Rattle.bands.proofs.list.sound_bands.Statement.{statement}
 use Rattle.bands.proofs.list.sound_bands.Tie as tie
-use Rattle.bands.proofs.list.sound_bands.Reads as reads
-use Rattle.bands.proofs.list.sound_bands.Lts as lts
-use Rattle.bands.proofs.list.bars.Reads as bars-reads
-use Rattle.bands.proofs.list.mult.Reads as mult-reads
 
 abbrev Inv-loop : tie.InvT-loop
 Inv-loop numbers last₀ i₀ last i = Sounding (atOf numbers) (length numbers) i last
@@ -19,35 +15,27 @@ Inv-loop numbers last₀ i₀ last i = Sounding (atOf numbers) (length numbers) 
 abbrev μ-loop : tie.MeasureT-loop
 μ-loop numbers last₀ i₀ last i = length numbers - i
 
--- src/list.rt:29:9
 returns : tie.Need-returns Inv-loop μ-loop
 returns c = none-sound (atOf (c .before .before .args .numbers .now)) _ (c .if1 .taken)
 
--- src/list.rt:31:20
 shared-slice-read-last : tie.Need-shared-slice-read-last Inv-loop μ-loop
 shared-slice-read-last c = omega arith
 
--- src/list.rt:33:5
 loop-holds : tie.Need-loop-holds Inv-loop μ-loop
 loop-holds c = sounding-one (atOf (c .before .before .before .args .numbers .now)) _ (c .before .if1 .left)
 
--- src/list.rt:34:28
 mul-mult : tie.Need-mul-mult Inv-loop μ-loop
 mul-mult c = search needs
 
--- src/list.rt:34:28
 shared-slice-read-mult : tie.Need-shared-slice-read-mult Inv-loop μ-loop
 shared-slice-read-mult c = search needs
 
--- src/list.rt:34:23
 mult-requires : tie.Need-mult-requires Inv-loop μ-loop
 mult-requires c κs = search needs
 
--- src/list.rt:35:12
 bars-requires : tie.Need-bars-requires Inv-loop μ-loop
 bars-requires c κs = search needs
 
--- src/list.rt:36:13
 returns-2 : tie.Need-returns-2 Inv-loop μ-loop
 returns-2 c =
     let v = c .before .before .before .before .before .loop in
@@ -55,15 +43,12 @@ returns-2 c =
     let t : v .i < length l = c .before .before .before .before .loop-test .taken in
     sounding-stop (atOf l) (length l) (v .i) (v .last) (c .before .before .mult .result) (v .inv) (c .before .before .mult .ensures) t (sym (c .before .bars .ensures) ∙ c .if2 .taken)
 
--- src/list.rt:38:9
 add-i : tie.Need-add-i Inv-loop μ-loop
 add-i c = search needs
 
--- src/list.rt:33:5
 loop-less : tie.Need-loop-less Inv-loop μ-loop
 loop-less c = search needs
 
--- src/list.rt:33:5
 loop-again : tie.Need-loop-again Inv-loop μ-loop
 loop-again c =
     let v = c .before .before .before .before .before .loop in
@@ -71,7 +56,6 @@ loop-again c =
     let t : v .i < length l = c .before .before .before .before .loop-test .taken in
     sounding-more (atOf l) (length l) (v .i) (v .last) (c .before .before .mult .result) (v .inv) (c .before .before .mult .ensures) t (sym (c .before .bars .ensures) ∙ c .if2 .left)
 
--- src/list.rt:25:1
 returns-3 : tie.Need-returns-3 Inv-loop μ-loop
 returns-3 c = sounding-all (atOf (c .before .before .before .before .before .args .numbers .now)) _ (c .before .loop .i) (c .before .loop .last) (c .loop-test .left) (c .before .loop .inv)
 

@@ -1,4 +1,4 @@
--- `power::chain` meets its contract: up to j the list holds the chain's numbers, and `last` is the next one (`Filling`). Assumes nothing.
+-- `own_power::chain` meets its contract: up to j the list holds the chain's numbers, and `last` is the next one (`Filling`). Assumes nothing.
 use mathlib.Core.Path.{refl}
 use Prim.Native.Nat.{_-_}
 use lib.ListN.{length-replicate}

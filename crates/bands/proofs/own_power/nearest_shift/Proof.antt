@@ -1,4 +1,4 @@
--- `power::nearest_shift` meets its contract, by the three ways that the remainder compares with a half. Assumes nothing.
+-- `own_power::nearest_shift` meets its contract, by the three ways that the remainder compares with a half. Assumes nothing.
 use mathlib.Core.Path.{_≡_, refl, sym, ap, _∙_, subst}
 use Prim.Native.Nat.{ℕ, _+_, _*_, _/_, _%_, _^_, _<_, _≤_}
 use native.Mathlib.Nat.{mod-le, mod-eq-of-lt, one-mul, lt-trans}

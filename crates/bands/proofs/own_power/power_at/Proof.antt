@@ -1,4 +1,4 @@
--- `power::power_at` meets its contract. Assumes nothing.
+-- `own_power::power_at` meets its contract. Assumes nothing.
 use mathlib.Core.Path.{_≡_, refl, sym, ap, _∙_, subst}
 use Prim.Native.Nat.{ℕ}
 use Rattle.bands.proofs.Fields.{no-quotient}

@@ -1,4 +1,4 @@
--- `power::power_from` meets its contract: two rows of products are the mantissa, which is in the range that `rounded` asks. Assumes nothing.
+-- `own_power::power_from` meets its contract: two rows of products are the mantissa, which is in the range that `rounded` asks. Assumes nothing.
 use mathlib.Core.Path.{_≡_, sym, ap, _∙_, subst}
 use Prim.Native.Nat.{ℕ, _+_, _-_, _*_, _/_, _%_, _^_, _≤_, _<_}
 use native.Mathlib.Nat.{le-trans, le-of-eq, le-of-lt, lt-of-lt-of-le, lt-of-le-of-lt, mul-le-mul-right}

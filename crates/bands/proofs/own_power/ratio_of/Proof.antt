@@ -1,4 +1,4 @@
--- `power::ratio_of` meets its contract. Assumes nothing.
+-- `own_power::ratio_of` meets its contract. Assumes nothing.
 use mathlib.Core.Path.{_≡_, refl, sym, ap, _∙_, subst}
 use mathlib.Core.List.{List}
 use mathlib.Core.Logic.{⊎-elim}

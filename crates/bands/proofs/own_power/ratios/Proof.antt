@@ -1,4 +1,4 @@
--- `power::ratios` meets its contract: up to i each ratio is there (`Ratioed`). Assumes nothing.
+-- `own_power::ratios` meets its contract: up to i each ratio is there (`Ratioed`). Assumes nothing.
 use mathlib.Core.Path.{_≡_, refl, sym, ap, _∙_, subst}
 use Prim.Native.Nat.{ℕ, _-_}
 use native.Mathlib.Omega.{arith}

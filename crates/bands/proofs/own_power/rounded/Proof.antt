@@ -1,4 +1,4 @@
--- `power::rounded` meets its contract: the pattern is the dropped digits' count as the field, and the kept number added to it. Assumes nothing.
+-- `own_power::rounded` meets its contract: the pattern is the dropped digits' count as the field, and the kept number added to it. Assumes nothing.
 use mathlib.Core.Path.{_≡_, sym, ap, _∙_}
 use Prim.Native.Nat.{ℕ, _+_, _-_, _*_, _^_, _≤_, _<_}
 use native.Mathlib.Omega.{arith}

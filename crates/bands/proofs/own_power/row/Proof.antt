@@ -1,4 +1,4 @@
--- `power::row` meets its contract: up to j the product is that of the definition (`Row`). Assumes nothing.
+-- `own_power::row` meets its contract: up to j the product is that of the definition (`Row`). Assumes nothing.
 use mathlib.Core.Path.{sym, subst}
 use Prim.Native.Nat.{ℕ, _+_, _-_}
 use native.Mathlib.Omega.{arith}

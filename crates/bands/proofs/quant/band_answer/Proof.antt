@@ -9,9 +9,6 @@ use Rattle.bands.specs.declared.quant.Banded.the-variants.{Done}
 use Rattle.bands.proofs.QuantLaws.{channel-fits, sound-part, answer-none, answer-on, answer-stop, answer-all}
 use Rattle.bands.proofs.quant.band_answer.Statement.{statement}
 use Rattle.bands.proofs.quant.band_answer.Tie as tie
-use Rattle.bands.proofs.quant.band_answer.Reads as reads
-use Rattle.bands.proofs.quant.band_answer.Lts as lts
-use Rattle.bands.proofs.list.sound_bands.Reads as sound-bands-reads
 
 abbrev Inv-loop : tie.InvT-loop
 Inv-loop numbers count c₀ c = (c ≤ 3) × (bandAnswer numbers count c ≡ Done)
@@ -19,11 +16,9 @@ Inv-loop numbers count c₀ c = (c ≤ 3) × (bandAnswer numbers count c ≡ Don
 abbrev μ-loop : tie.MeasureT-loop
 μ-loop numbers count c₀ c = 3 - c
 
--- src/quant.rt:85:5
 loop-holds : tie.Need-loop-holds Inv-loop μ-loop
 loop-holds c = (omega arith, answer-none _ _)
 
--- src/quant.rt:86:18
 mul-at : tie.Need-mul-at Inv-loop μ-loop
 mul-at c =
     let a = c .before .before .before .args in
@@ -31,7 +26,6 @@ mul-at c =
     let p = c .before .before .before .pre in
     record { fits = omega arith }
 
--- src/quant.rt:87:19
 add-end : tie.Need-add-end Inv-loop μ-loop
 add-end c =
     let a = c .before .before .before .args in
@@ -39,7 +33,6 @@ add-end c =
     let p = c .before .before .before .pre in
     record { fits = omega arith }
 
--- src/quant.rt:88:29
 mul-sound-bands : tie.Need-mul-sound-bands Inv-loop μ-loop
 mul-sound-bands c =
     let a = c .before .before .before .args in
@@ -47,11 +40,9 @@ mul-sound-bands c =
     let p = c .before .before .before .pre in
     record { fits = omega arith }
 
--- src/quant.rt:88:29
 sub-sound-bands : tie.Need-sub-sound-bands Inv-loop μ-loop
 sub-sound-bands c = omega arith
 
--- src/quant.rt:88:29
 part-sound-bands-start : tie.Need-part-sound-bands-start Inv-loop μ-loop
 part-sound-bands-start c =
     let a = c .before .before .before .args in
@@ -59,7 +50,6 @@ part-sound-bands-start c =
     let p = c .before .before .before .pre in
     search needs
 
--- src/quant.rt:88:29
 part-sound-bands-end : tie.Need-part-sound-bands-end Inv-loop μ-loop
 part-sound-bands-end c =
     let a = c .before .before .before .args in
@@ -67,11 +57,9 @@ part-sound-bands-end c =
     let p = c .before .before .before .pre in
     search needs
 
--- src/quant.rt:88:13
 sound-bands-requires : tie.Need-sound-bands-requires Inv-loop μ-loop
 sound-bands-requires c κs = tt
 
--- src/quant.rt:90:13
 returns : tie.Need-returns Inv-loop μ-loop
 returns c =
     let a = c .before .before .before .before .before .before .args in
@@ -79,15 +67,12 @@ returns c =
     answer-stop (a .numbers .now) (a .count) k (c .before .sound-bands .result) (c .before .before .before .loop-test .taken) (c .before .before .before .before .loop .inv .1)
     (sound-part (a .numbers .now) (a .count) k (c .before .sound-bands .result) (c .before .before .before .before .before .before .pre .1) (c .before .before .before .loop-test .taken) (c .before .sound-bands .ensures)) (c .if1 .taken)
 
--- src/quant.rt:95:9
 add-c : tie.Need-add-c Inv-loop μ-loop
 add-c c = omega arith
 
--- src/quant.rt:85:5
 loop-less : tie.Need-loop-less Inv-loop μ-loop
 loop-less c = omega arith
 
--- src/quant.rt:85:5
 loop-again : tie.Need-loop-again Inv-loop μ-loop
 loop-again c =
     let a = c .before .before .before .before .before .before .args in
@@ -97,7 +82,6 @@ loop-again c =
           (sound-part (a .numbers .now) (a .count) k (c .before .sound-bands .result) (c .before .before .before .before .before .before .pre .1) (c .before .before .before .loop-test .taken) (c .before .sound-bands .ensures)) (c .if1 .left),
     )
 
--- src/quant.rt:80:1
 returns-2 : tie.Need-returns-2 Inv-loop μ-loop
 returns-2 c = answer-all (c .before .before .before .args .numbers .now) (c .before .before .before .args .count) (c .before .loop .c) (c .loop-test .left) (c .before .loop .inv .0) (c .before .loop .inv .1)
 

@@ -6,39 +6,25 @@ use Rattle.bands.proofs.QuantLaws.{undo, lent-is-grid, lent-numbers-are
 use borrow.Author.Needs.{needs}
 use Rattle.bands.proofs.quant.dct_quant_weights.Statement.{statement}
 use Rattle.bands.proofs.quant.dct_quant_weights.Tie as tie
-use Rattle.bands.proofs.quant.dct_quant_weights.Reads as reads
-use Rattle.bands.proofs.quant.dct_quant_weights.Lts as lts
-use Rattle.bands.proofs.quant.band_answer.Reads as band-answer-reads
-use Rattle.bands.proofs.quant.clear.Reads as clear-reads
-use Rattle.bands.proofs.quant.is_done.Reads as is-done-reads
-use Rattle.bands.proofs.quant.lent_right.Reads as lent-right-reads
-use Rattle.bands.proofs.quant.weigh_all.Reads as weigh-all-reads
 
--- src/quant.rt:138:9
 lent-right-requires : tie.Need-lent-right-requires
 lent-right-requires c κs = search needs
 
--- src/quant.rt:139:9
 returns : tie.Need-returns
 returns c = let a = c .before .before .before .before .args in let e = sym (c .before .lent-right .ensures) ∙ undo (c .before .lent-right .result) true (c .if1 .taken) in (answer-lent (a .numbers .now) (a .count) (a .width) (a .height) (a .out .now) e, leaves-as (a .numbers .now) (a .count) (a .width) (a .height) (a .out .now) _ (answer-lent (a .numbers .now) (a .count) (a .width) (a .height) (a .out .now) e))
 
--- src/quant.rt:141:9
 band-answer-requires : tie.Need-band-answer-requires
 band-answer-requires c κs = let a = c .before .before .before .before .args in let e = sym (c .before .lent-right .ensures) ∙ undo (c .before .lent-right .result) false (c .if1 .left) in (lent-is-grid (length (a .numbers .now)) (a .count) (a .width) (a .height) (length (a .out .now)) e .few, lent-numbers-are (length (a .numbers .now)) (a .count) (a .width) (a .height) (length (a .out .now)) e)
 
--- src/quant.rt:142:8
 is-done-requires : tie.Need-is-done-requires
 is-done-requires c κs = search needs
 
--- src/quant.rt:143:9
 weigh-all-requires : tie.Need-weigh-all-requires
 weigh-all-requires c κs = let a = c .before .before .before .before .before .before .before .before .args in let e = sym (c .before .before .before .before .before .lent-right .ensures) ∙ undo (c .before .before .before .before .before .lent-right .result) false (c .before .before .before .before .if1 .left) in (lent-numbers-are (length (a .numbers .now)) (a .count) (a .width) (a .height) (length (a .out .now)) e, lent-is-grid (length (a .numbers .now)) (a .count) (a .width) (a .height) (length (a .out .now)) e)
 
--- src/quant.rt:144:9
 same-length : tie.Need-same-length
 same-length c = search needs
 
--- src/quant.rt:144:9
 returns-2 : tie.Need-returns-2
 returns-2 c = let a = c .before .before .before .before .before .before .before .before .before .before .before .args in
     let e = sym (c .before .before .before .before .before .before .before .before .lent-right .ensures) ∙ undo (c .before .before .before .before .before .before .before .before .lent-right .result) false (c .before .before .before .before .before .before .before .if1 .left) in
@@ -46,15 +32,12 @@ returns-2 c = let a = c .before .before .before .before .before .before .before 
     let d = sym (c .before .before .before .before .before .is-done .ensures) ∙ c .before .before .before .before .if2 .taken in
     (b .ensures ∙ answer-right (a .numbers .now) (a .count) (a .width) (a .height) (a .out .now) e, c .before .before .weigh-all .ensures ∙ all-done (a .numbers .now) (a .count) (a .width) (a .height) (a .out .now) (b .result) (b .ensures) e d)
 
--- src/quant.rt:146:5
 clear-requires : tie.Need-clear-requires
 clear-requires c κs = search needs
 
--- src/quant.rt:134:1
 same-length-2 : tie.Need-same-length-2
 same-length-2 c = search needs
 
--- src/quant.rt:134:1
 returns-3 : tie.Need-returns-3
 returns-3 c = let a = c .before .before .before .before .before .before .before .before .before .before .before .args in
     let e = sym (c .before .before .before .before .before .before .before .before .lent-right .ensures) ∙ undo (c .before .before .before .before .before .before .before .before .lent-right .result) false (c .before .before .before .before .before .before .before .if1 .left) in

@@ -8,9 +8,6 @@ use Rattle.bands.specs.Quant.{kindHas}
 use Rattle.bands.proofs.QuantLaws.{no-kind, next-kind, some-kind}
 use Rattle.bands.proofs.quant.of_kind.Statement.{statement}
 use Rattle.bands.proofs.quant.of_kind.Tie as tie
-use Rattle.bands.proofs.quant.of_kind.Reads as reads
-use Rattle.bands.proofs.quant.of_kind.Lts as lts
-use Rattle.bands.proofs.quant.is_kind.Reads as is-kind-reads
 
 same : (k : ℕ) → 17 ≤ k → k ≤ 17 → 17 ≡ k
 same k a b = omega arith
@@ -21,31 +18,24 @@ Inv-loop w h k₀ k = (k ≤ 17) × (kindHas k w h ≡ false)
 abbrev μ-loop : tie.MeasureT-loop
 μ-loop w h k₀ k = 17 - k
 
--- src/quant.rt:36:5
 loop-holds : tie.Need-loop-holds Inv-loop μ-loop
 loop-holds c = (omega arith, no-kind (c .args .w) (c .args .h))
 
--- src/quant.rt:37:12
 is-kind-requires : tie.Need-is-kind-requires Inv-loop μ-loop
 is-kind-requires c κs = tt
 
--- src/quant.rt:38:13
 returns : tie.Need-returns Inv-loop μ-loop
 returns c = let a = c .before .before .before .before .args in some-kind (a .w) (a .h) 17 (c .before .before .before .loop .k) (c .before .before .loop-test .taken) (sym (c .before .is-kind .ensures) ∙ c .if1 .taken)
 
--- src/quant.rt:40:9
 add-k : tie.Need-add-k Inv-loop μ-loop
 add-k c = omega arith
 
--- src/quant.rt:36:5
 loop-less : tie.Need-loop-less Inv-loop μ-loop
 loop-less c = omega arith
 
--- src/quant.rt:36:5
 loop-again : tie.Need-loop-again Inv-loop μ-loop
 loop-again c = let a = c .before .before .before .before .args in (omega arith, next-kind (a .w) (a .h) (c .before .before .before .loop .k) (c .before .before .before .loop .inv .1) (sym (c .before .is-kind .ensures) ∙ c .if1 .left))
 
--- src/quant.rt:32:1
 returns-2 : tie.Need-returns-2 Inv-loop μ-loop
 returns-2 c = let a = c .before .before .args in sym (ap (λ (k : ℕ). kindHas k (a .w) (a .h)) (same (c .before .loop .k) (c .loop-test .left) (c .before .loop .inv .0)) ∙ c .before .loop .inv .1)
 

@@ -5,31 +5,22 @@ use Rattle.bands.proofs.QuantLaws.{grid-not-four, grid-four, grid-eight
 use borrow.Author.Needs.{needs}
 use Rattle.bands.proofs.quant.on_grid.Statement.{statement}
 use Rattle.bands.proofs.quant.on_grid.Tie as tie
-use Rattle.bands.proofs.quant.on_grid.Reads as reads
-use Rattle.bands.proofs.quant.on_grid.Lts as lts
-use Rattle.bands.proofs.quant.of_kind.Reads as of-kind-reads
 
--- src/quant.rt:50:9
 of-kind-requires : tie.Need-of-kind-requires
 of-kind-requires c κs = search needs
 
--- src/quant.rt:50:9
 returns : tie.Need-returns
 returns c = c .of-kind .ensures ∙ grid-not-four (c .before .before .args .w) (c .before .before .args .h) (c .before .if1 .taken)
 
--- src/quant.rt:53:9
 returns-2 : tie.Need-returns-2
 returns-2 c = grid-four (c .before .before .args .w) (c .before .before .args .h) (c .before .if1 .left) (c .if2 .taken)
 
--- src/quant.rt:56:9
 returns-3 : tie.Need-returns-3
 returns-3 c = grid-eight (c .before .before .before .args .w) (c .before .before .before .args .h) (c .before .before .if1 .left) (c .before .if2 .left) (c .if3 .taken)
 
--- src/quant.rt:58:5
 of-kind-requires-2 : tie.Need-of-kind-requires-2
 of-kind-requires-2 c κs = search needs
 
--- src/quant.rt:46:1
 returns-4 : tie.Need-returns-4
 returns-4 c = c .of-kind2 .ensures ∙ grid-else (c .before .before .before .before .args .w) (c .before .before .before .before .args .h) (c .before .before .before .if1 .left) (c .before .before .if2 .left) (c .before .if3 .left)
 

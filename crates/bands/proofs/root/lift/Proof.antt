@@ -5,8 +5,6 @@ use borrow.Author.Needs.{needs}
 use Rattle.bands.proofs.Lift.{Lifting, start, start-most, down-to, turn, done}
 use Rattle.bands.proofs.root.lift.Statement.{statement}
 use Rattle.bands.proofs.root.lift.Tie as tie
-use Rattle.bands.proofs.root.lift.Reads as reads
-use Rattle.bands.proofs.root.lift.Lts as lts
 
 abbrev Inv-loop : tie.InvT-loop
 Inv-loop m e n₀ h₀ n h = Lifting m e n h
