@@ -20,8 +20,9 @@ use Rattle.bands.specs.Close.{Close}
 use Rattle.bands.specs.Power.{normal, P}
 use Rattle.bands.specs.Bands.{multOf, bandAt, barred, sound}
 use Rattle.bands.proofs.Units.{Units, grid-exact, mul-units}
+use Rattle.bands.proofs.WholeUnits.{whole-number}
 use Rattle.bands.proofs.Ranged.{Banded, round-banded}
-use Rattle.bands.proofs.MultRange.{mild, Whole, whole-number, mult-banded, Moderate, moderate}
+use Rattle.bands.proofs.MultRange.{mild, mult-banded, Moderate, moderate}
 use Rattle.bands.proofs.Sound.{all-sound, opened, first-band}
 use Rattle.bands.proofs.Signs.{product-above, neg-mul, neg-div}
 use Rattle.bands.proofs.BandRatios.{ratio-normal}

@@ -3,6 +3,7 @@
 pub mod Roots
 pub mod DoubleRoot
 pub mod Units
+pub mod WholeUnits
 pub mod Rounding
 pub mod Patterns
 pub mod Fields

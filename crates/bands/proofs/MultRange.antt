@@ -16,7 +16,7 @@ use lib.Ieee.Scale.{grid, overflow, round-val, finite}
 use lib.Ieee.Positive.{num, den, positive, positive-of-value, value→cross}
 use Rattle.bands.specs.Bands.{nought, one, multOf}
 use Rattle.bands.proofs.Units.{Units, grid-mono, grid-near, mul-units, add-units, sub-units, div-units}
-use Rattle.bands.proofs.TimesPower.{short, place}
+use Rattle.bands.proofs.WholeUnits.{Whole, whole-number}
 use Rattle.bands.proofs.Ranged.{Banded, round-banded}
 
 -- ---- the factor
@@ -54,19 +54,6 @@ abbrev pub mild : Float → Bool
 mild nan = false
 mild (inf s) = false
 mild (fin s m e) = leb (m * up e) (65504 * down e)
-
--- an f32 is a whole number of units
-pub record Whole (x : Float) : Type 0 where
-  pub sign : Bool
-  pub g : ℕ
-  pub value : HasValue x sign g (2 ^ 149)
-
-pub whole-number : (x : Float) → T (fits binary32 x) → T (finite x) → Whole x
-whole-number nan f t = absurd t
-whole-number (inf s) f t = absurd t
-whole-number (fin s m e) f t =
-    let p = place e 0 (short s m e f .1) in
-    record { sign = s; g = m * 2 ^ p .0; value = (refl, mul-assoc m (up e) (2 ^ 149) ∙ ap (λ (z : ℕ). m * (up e * z)) (sym (native.Mathlib.Nat.one-mul (2 ^ 149))) ∙ ap (λ (z : ℕ). m * z) (p .1) ∙ sym (mul-assoc m (2 ^ p .0) (down e))) }
 
 mild-finite : (x : Float) → T (mild x) → T (finite x)
 mild-finite nan t = absurd t

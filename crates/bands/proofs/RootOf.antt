@@ -10,12 +10,13 @@ use lib.Dec.{T, ltb, leb, lit<, lit≤}
 use lib.Pow.{pow-pos}
 use lib.Ieee.{Float, nan, inf, fin, Format, binary32, prec, low, up, down, size, round}
 use lib.Ieee.Fits.{up-pos, down-pos, and-l, and-r}
-use lib.Ieee.Positive.{positive, first-pos}
+use lib.Ieee.Positive.{positive, positive-finite, value-pos}
 use lib.Ieee.Exact.{HasValue}
 use lib.Ieee.Order.{drop, kept}
 use lib.Ieee.Scale.{grid, overflow, round-val, normal-of-fraction}
 use Rattle.bands.specs.Root.{wholeRoot, twice, quarters, rootOf}
-use Rattle.bands.proofs.Units.{exp-le, Units, Near, grid-mono, closest-near, kept-le, kept-ge}
+use Rattle.bands.proofs.Units.{Units, Near, grid-mono, closest-near, kept-le, kept-ge}
+use Rattle.bands.proofs.WholeUnits.{whole-number, plain}
 use Rattle.bands.proofs.Patterns.{size-gt}
 use Rattle.bands.proofs.DoubleRoot.{Twice, twice-is, twice-mono}
 
@@ -107,42 +108,7 @@ nearest-units g G H =
       },
     )
 
--- ---- on the values themselves: an f32 above zero is a whole number of units, and its root is the nearest f32
-pub record Whole (x : Float) : Type 0 where
-  pub g : ℕ
-  pub some : 0 < g
-  pub most : g < 2 ^ 277
-  pub value : Units binary32 x g
-
-pub whole-of : (x : Float) → T (lib.Ieee.fits binary32 x) → T (positive x) → Whole x
-unfolding lib.Ieee.fits
-whole-of nan f p = absurd p
-whole-of (inf s) f p = absurd p
-whole-of (fin true m e) f p = absurd p
-whole-of (fin false zero e) f p = absurd p
-whole-of (fin false (suc m) e) f p =
-    let odd = lib.Dec.eqb (suc m % 2) 1 in
-    let short = ltb (suc m) (2 ^ 24) in
-    let fine = leb (down e) (2 ^ 149) in
-    let last = ltb (suc m * up e) (2 ^ 128 * down e) in
-    let f3 = and-r (odd && short) fine (and-l (odd && short && fine) last f) in
-    let f4 = and-r (odd && short && fine) last f in
-    at (suc m) e (native.Mathlib.Nat.zero-lt-suc m) (lib.Dec.leb→le (down e) (2 ^ 149) f3) (lib.Dec.ltb→lt (suc m * up e) (2 ^ 128 * down e) f4)
-  where
-    make : (m : ℕ) (e : lib.IntN.ℤ) (g : ℕ) → 0 < m → m * up e < 2 ^ 128 * down e → m * up e * 2 ^ 149 ≡ g * down e → Whole (fin false m e)
-    make m e g M t h = record {
-      g = g;
-      some = first-pos g (down e) (subst (λ (z : ℕ). 0 < z) h (mul-pos (mul-pos M (up-pos e)) (pow-pos 149)));
-      most = native.Mathlib.Nat.lt-of-mul-lt-mul-right (down e) (lt-of-le-of-lt (le-of-eq (sym h)) (lt-of-lt-of-le (mul-lt-mul-of-pos-right t (pow-pos 149)) (le-of-eq (mul-right-comm (2 ^ 128) (down e) (2 ^ 149)))));
-      value = (refl, h);
-    }
-
-    at : (m : ℕ) (e : lib.IntN.ℤ) → 0 < m → down e ≤ 2 ^ 149 → m * up e < 2 ^ 128 * down e → Whole (fin false m e)
-    at m (lib.IntN.pos k) M d t = make m (lib.IntN.pos k) (m * 2 ^ k * 2 ^ 149) M t (sym (native.Mathlib.Nat.mul-one (m * 2 ^ k * 2 ^ 149)))
-    at m (lib.IntN.negsuc k) M d t =
-        make m (lib.IntN.negsuc k) (m * 2 ^ (149 - suc k)) M t
-        (ap (λ (z : ℕ). z * 2 ^ 149) (native.Mathlib.Nat.mul-one m) ∙ ap (λ (z : ℕ). m * z) (sym (sym (lib.Pow.pow-add 2 (149 - suc k) (suc k)) ∙ ap (λ (z : ℕ). 2 ^ z) (lib.Ieee.Digits.back 149 (suc k) (exp-le (suc k) 149 d)))) ∙ sym (mul-assoc m (2 ^ (149 - suc k)) (2 ^ suc k)))
-
+-- ---- on the values themselves: the root of an f32 above zero is the nearest f32
 -- the root r of x: with x = g / 2 ^ 149 and r = q * 2 ^ k / 2 ^ 149, 2 ^ 23 ≤ q ≤ 2 ^ 24, the squares of (2 q - 1) * 2 ^ k / 2 ^ 150 and (2 q + 1) * 2 ^ k / 2 ^ 150 lie on both sides of x
 pub record Rooted (x r : Float) : Type 0 where
   pub g : ℕ
@@ -154,13 +120,15 @@ pub record Rooted (x r : Float) : Type 0 where
 
 pub root-nearest : (x : Float) → T (lib.Ieee.fits binary32 x) → T (positive x) → Rooted x (rootOf x)
 root-nearest x f p =
-    let w = whole-of x f p in
-    let n = nearest-units (w .g) (w .some) (w .most) in
+    let w = whole-number x f (positive-finite x p) in
+    let v : Units binary32 x (w .g) = plain x (w .sign) (w .g) (2 ^ 149) p (w .value) in
+    let some : 0 < w .g = value-pos x (w .g) (2 ^ 149) p (pow-pos 149) v in
+    let n = nearest-units (w .g) some (w .most) in
     record {
       g = w .g;
-      argument = w .value;
+      argument = v;
       q = n .0;
       k = n .1;
-      root = subst (Units binary32 (rootOf x)) (n .2) (root-units x (w .g) (w .some) (w .most) (w .value));
+      root = subst (Units binary32 (rootOf x)) (n .2) (root-units x (w .g) some (w .most) v);
       nearest = n .3;
     }
