@@ -45,7 +45,7 @@ pub filling-none : (r : ℕ) (l : List ℕ) → length l ≡ 33 → Filling r l 
 unfolding chain
 filling-none r l h = record { most = zero-le; long = h; next = refl; done = λ i b. absurd (not-suc-le-zero b) }
 
-split-lt : (i j : ℕ) → i < j + 1 → (i ≡ j) ⊎ (i < j)
+pub split-lt : (i j : ℕ) → i < j + 1 → (i ≡ j) ⊎ (i < j)
 split-lt i j h = native.Mathlib.Nat.eq-or-lt-of-le (omega arith)
 
 pub filling-more : (r : ℕ) (l : List ℕ) (last j w : ℕ) → Filling r l last j → j < 33 → w ≡ wholeRoot (last * 2 ^ 31) → Filling r (set l j last) w (j + 1)

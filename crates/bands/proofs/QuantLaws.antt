@@ -4,7 +4,7 @@ use mathlib.Core.Logic.{_⊎_, inl, inr, ⊎-elim}
 use mathlib.Core.Bool.{Bool, true, false, not, cond, _&&_, _||_, true≢false, false≢true}
 use mathlib.Core.List.{List}
 use Prim.Native.Nat.{ℕ, zero, suc, _+_, _-_, _*_, _/_, _%_, _≤_, _<_}
-use native.Mathlib.Nat.{le-of-suc-le-suc, not-suc-le-zero, eq-or-lt-of-le, le-trans, le-of-eq, lt-of-lt-of-le, mod-lt, div-lt-iff-lt-mul, mul-le-mul}
+use native.Mathlib.Nat.{le-of-suc-le-suc, not-suc-le-zero, eq-or-lt-of-le, le-trans, le-of-eq, lt-of-lt-of-le, lt-of-le-of-lt, mod-lt, div-lt-iff-lt-mul, mul-le-mul, mul-le-mul-right, mul-pos, mul-comm, mul-add-div-right, mul-add-mod-self-right, div-eq-of-lt, mod-eq-of-lt, add-zero}
 use native.Mathlib.Numerals.{add-one}
 use native.Mathlib.Omega.{arith}
 use borrow.Author.Tests.{eq-eqb, ne-eqb, lt-ltb, le-ltb, le-leb, lt-leb, eqb-true, leb-true}
@@ -18,10 +18,10 @@ use Rattle.bands.specs.Bands.{nought, atOf, bandAt, sound}
 use Rattle.bands.specs.Table.{tab}
 use Rattle.bands.specs.Weights.{bandWeight}
 use Rattle.bands.specs.Views.{Grid, Banding, isDone, arrayOf, gridCell, gridOf}
-use Rattle.bands.specs.Quant.{kindIs, kindHas, gridded, lentRight, channelOf, soundOf, orElse, bandAnswer, dctAnswer, dctWeight, dctTable, leaves, dctLeaves}
+use Rattle.bands.specs.Quant.{replyOf, kindIs, kindHas, gridded, lentRight, channelOf, soundOf, orElse, bandAnswer, dctAnswer, dctWeight, dctTable, leaves, dctLeaves}
 use Rattle.bands.specs.declared.quant.Banded.{Banded}
 use Rattle.bands.specs.declared.quant.Banded.the-variants.{Done, Lent, Band}
-use Rattle.bands.proofs.TableLaws.{tab-same}
+use Rattle.bands.proofs.TableLaws.{tab-same, getD-tab}
 use Rattle.bands.proofs.Cells.{row-under, area-pos, area-le}
 use Rattle.bands.proofs.Agree.{weight-agrees}
 
@@ -37,10 +37,6 @@ either-true false b e = inr e
 pub undo : (b t : Bool) → not b ≡ t → b ≡ not t
 undo true t e = ap not e
 undo false t e = ap not e
-
-and-false : (a : Bool) → (a && false) ≡ false
-and-false true = refl
-and-false false = refl
 
 or-true : (a : Bool) → (a || true) ≡ true
 or-true true = refl
@@ -293,3 +289,36 @@ module _ (ps : List Float) (n w h : ℕ) (out : List Float) where
 
   pub all-zero : (a : Banded) → a ≡ bandAnswer ps n 3 → lentRight (length ps) n w h (length out) ≡ true → isDone a ≡ false → replicate (length out) nought ≡ dctLeaves ps n w h out
   all-zero a e l d = never a (λ q. not-lent 3 (sym e ∙ q)) d ∙ leaves-as a (e ∙ answer-right l)
+
+-- ---- for the crate above: one weight of the table, and a reply names one answer
+pub table-at : (ps : List Float) (n w h c y x : ℕ) → c < 3 → y < h → x < w → getD (dctTable ps n w h) (c * (w * h) + (y * w + x)) nan ≡ dctWeight ps n w h c y x
+unfolding dctTable
+table-at ps n w h c y x C Y X =
+    let W : 0 < w = lt-of-le-of-lt Prim.Native.Nat.zero-le X in
+    let H : 0 < h = lt-of-le-of-lt Prim.Native.Nat.zero-le Y in
+    let A : 0 < w * h = mul-pos W H in
+    let in-row : y * w + x < w * h = lt-of-lt-of-le (row-lt y w x X) (le-trans (mul-le-mul-right w Y) (le-of-eq (mul-comm h w))) in
+    let p = c * (w * h) + (y * w + x) in
+    let e0 : p / (w * h) ≡ c = mul-add-div-right A c (y * w + x) ∙ ap (λ (z : ℕ). c + z) (div-eq-of-lt in-row) ∙ add-zero c in
+    let e1 : p % (w * h) ≡ y * w + x = mul-add-mod-self-right c (w * h) (y * w + x) ∙ mod-eq-of-lt in-row in
+    let e2 : (y * w + x) / w ≡ y = mul-add-div-right W y x ∙ ap (λ (z : ℕ). y + z) (div-eq-of-lt X) ∙ add-zero y in
+    let e3 : (y * w + x) % w ≡ x = mul-add-mod-self-right y w x ∙ mod-eq-of-lt X in
+    getD-tab (3 * (w * h)) (λ q. dctWeight ps n w h (q / (w * h)) (q % (w * h) / w) (q % (w * h) % w)) p nan (lt-of-lt-of-le (row-lt c (w * h) (y * w + x) in-row) (mul-le-mul-right (w * h) C))
+    ∙ ap (λ (z : ℕ). dctWeight ps n w h z (p % (w * h) / w) (p % (w * h) % w)) e0
+    ∙ ap (λ (z : ℕ). dctWeight ps n w h c (z / w) (z % w)) e1
+    ∙ ap (λ (z : ℕ). dctWeight ps n w h c z ((y * w + x) % w)) e2
+    ∙ ap (λ (z : ℕ). dctWeight ps n w h c y z) e3
+  where
+    row-lt : (y w x : ℕ) → x < w → y * w + x < suc y * w
+    row-lt y w x h = let e : suc y * w ≡ y * w + w = native.Mathlib.Nat.suc-mul y w in omega arith
+
+pub reply-once : (a b : Banded) → replyOf a ≡ replyOf b → a ≡ b
+reply-once Done Done e = refl
+reply-once Done Lent e = let z : _≡_ {A = ℕ} 0 1 = cc in absurd (omega arith)
+reply-once Done (Band c i) e = let z : _≡_ {A = ℕ} 0 7 = cc in absurd (omega arith)
+reply-once Lent Done e = let z : _≡_ {A = ℕ} 1 0 = cc in absurd (omega arith)
+reply-once Lent Lent e = refl
+reply-once Lent (Band c i) e = let z : _≡_ {A = ℕ} 1 7 = cc in absurd (omega arith)
+reply-once (Band c i) Done e = let z : _≡_ {A = ℕ} 7 0 = cc in absurd (omega arith)
+reply-once (Band c i) Lent e = let z : _≡_ {A = ℕ} 7 1 = cc in absurd (omega arith)
+reply-once (Band c i) (Band d j) e = cc

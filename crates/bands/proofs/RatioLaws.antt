@@ -17,7 +17,7 @@ use Rattle.bands.specs.Power.{field, scaled, normal, powerOf, P}
 use Rattle.bands.specs.Views.{chainFrom, IsChain}
 use Rattle.bands.specs.Views.{none, absent, ratioOf, AllRatios}
 use Rattle.bands.proofs.Fields.{normal-is}
-use Rattle.bands.proofs.ChainLists.{isChain, first-of}
+use Rattle.bands.proofs.ChainLists.{isChain, first-of, split-lt}
 use Rattle.bands.proofs.Accuracy.{chosen}
 
 pub ratio-some : (q : Float) → T (normal q) → ratioOf q ≡ record { e = field q; roots = chainFrom (scaled q) 33 }
@@ -104,9 +104,6 @@ pub record Ratioed (bands : List Float) (r : List Ratio) (i : ℕ) : Type 0 wher
   pub most : i ≤ 15
   pub long : length r ≡ 15
   pub done : (k : ℕ) → k < i → getD r k absent ≡ ratioOf (div binary32 (getD bands (k + 1) nan) (getD bands k nan))
-
-split-lt : (i j : ℕ) → i < j + 1 → (i ≡ j) ⊎ (i < j)
-split-lt i j h = eq-or-lt-of-le (omega arith)
 
 pub ratioed-none : (bands : List Float) (r : List Ratio) → length r ≡ 15 → Ratioed bands r 0
 ratioed-none bands r h = record { most = Prim.Native.Nat.zero-le; long = h; done = λ k b. absurd (not-suc-le-zero b) }
