@@ -16,6 +16,7 @@ use lib.Ieee.Scale.{finite}
 use Rattle.bitstream.specs.Half as halves
 use Rattle.bitstream.specs.Half.{half, sizeIs}
 use Rattle.bitstream.proofs.HalfLaws.{half-exact, mul-values}
+use Rattle.bands.proofs.WholeUnits.{value-finite}
 use Rattle.bands.proofs.MultRange.{mild}
 use Rattle.bands.proofs.Formed.{starts}
 
@@ -27,11 +28,6 @@ value-mild : (x : Float) (s : Bool) (a : ℕ) → HasValue x s a (2 ^ 24) → a 
 value-mild nan s a h k = absurd h
 value-mild (inf t) s a h k = absurd h
 value-mild (fin t m e) s a h k = le→leb (m * up e) (65504 * down e) (shrink (m * up e) (down e) a 65504 (2 ^ 24) (pow-pos 24) (h .1) k)
-
-value-finite : (x : Float) (s : Bool) (a c : ℕ) → HasValue x s a c → T (finite x)
-value-finite nan s a c h = absurd h
-value-finite (inf t) s a c h = absurd h
-value-finite (fin t m e) s a c h = tt
 
 value-starts : (x : Float) (s : Bool) (a : ℕ) → HasValue x s a (2 ^ 24) → a ≤ 2 ^ 24 * 2 ^ 24 → T (starts x)
 value-starts nan s a h k = absurd h

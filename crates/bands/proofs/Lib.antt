@@ -1,4 +1,4 @@
--- The laws, on plain values. `Roots`: the whole root; `RootOf`: the rounded root is the nearest; `Accuracy` and `Ones`: the power; `Position` and `Asserts`: index and fraction;
+-- The laws, on plain values. `Roots`: the whole root; `RootNearest`: the rounded root is the nearest; `Accuracy` and `Ones`: the power; `Position` and `Asserts`: index and fraction;
 -- `Formed` and `Halves`: every ratio of bands is normal; `Numbers`: P7; `TableLaws`: lists by their places.
 pub mod Roots
 pub mod DoubleRoot
@@ -8,6 +8,7 @@ pub mod Rounding
 pub mod Patterns
 pub mod Fields
 pub mod RootOf
+pub mod RootNearest
 pub mod RootFields
 pub mod Lift
 pub mod Written

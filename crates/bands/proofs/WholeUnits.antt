@@ -45,6 +45,10 @@ pub record Whole (x : Float) : Type 0 where
   pub g : ℕ
   pub most : g < 2 ^ 277
   pub value : HasValue x sign g (2 ^ 149)
+  pub digits : ℕ
+  pub power : ℕ
+  pub few : digits < 2 ^ 24
+  pub is : g ≡ digits * 2 ^ power
 
 pub whole-number : (x : Float) → T (fits binary32 x) → T (finite x) → Whole x
 whole-number nan f t = absurd t
@@ -60,6 +64,10 @@ whole-number (fin s m e) f t =
       g = m * 2 ^ p .0;
       most = lt-of-mul-lt-mul-right (down e) (lt-of-le-of-lt (le-of-eq (sym v)) (lt-of-lt-of-le (mul-lt-mul-of-pos-right (h .2) (pow-pos 149)) (le-of-eq (mul-right-comm (2 ^ 128) (down e) (2 ^ 149)))));
       value = (refl, v);
+      digits = m;
+      power = p .0;
+      few = h .0;
+      is = refl;
     }
 
 -- a number above zero has the sign plus
@@ -68,3 +76,19 @@ plain nan s a c p h = absurd h
 plain (inf t) s a c p h = absurd h
 plain (fin true m e) s a c p h = absurd p
 plain (fin false m e) s a c p h = (refl, h .1)
+
+-- the units of a number are one number, of 24 digits and a power of two
+same-units : (x : Float) (s t : Bool) (a b c : ℕ) → 0 < c → HasValue x s a c → HasValue x t b c → a ≡ b
+same-units nan s t a b c C h k = absurd h
+same-units (inf u) s t a b c C h k = absurd h
+same-units (fin u m e) s t a b c C h k = native.Mathlib.Nat.eq-of-mul-eq-mul-right (down e) (down-pos e) a b (sym (h .1) ∙ k .1)
+
+pub value-finite : (x : Float) (s : Bool) (a c : ℕ) → HasValue x s a c → T (finite x)
+value-finite nan s a c h = absurd h
+value-finite (inf t) s a c h = absurd h
+value-finite (fin t m e) s a c h = tt
+
+pub digits-of : (x : Float) (h : ℕ) → T (fits binary32 x) → HasValue x false h (2 ^ 149) → (m : ℕ) × (j : ℕ) × (h ≡ m * 2 ^ j) × (m < 2 ^ 24)
+digits-of x h f u =
+    let w = whole-number x f (value-finite x false h (2 ^ 149) u) in
+    (w .digits, w .power, same-units x false (w .sign) h (w .g) (2 ^ 149) (pow-pos 149) u (w .value) ∙ w .is, w .few)
