@@ -13,8 +13,8 @@ use Rattle.bands.proofs.grid.weigh_at.Tie as tie
 cut-at-requires : tie.Need-cut-at-requires
 cut-at-requires c κs = search needs
 
-weigh-requires : tie.Need-weigh-requires
-weigh-requires c κs =
+interpolate-requires : tie.Need-interpolate-requires
+interpolate-requires c κs =
     let e = c .cut-at .ensures in (
       subst (λ (s : Segment). Stepped (s .fraction)) (sym e) (stepped (c .before .args .count) (c .before .args .p) (c .before .pre .0 .1)),
       subst (λ (s : Segment). c .before .args .r ≡ ratioOf (div binary32 (s .b) (s .a))) (sym e) (c .before .pre .1),
@@ -22,7 +22,7 @@ weigh-requires c κs =
 
 returns : tie.Need-returns
 unfolding between
-returns c = c .weigh .ensures ∙ ap (λ (s : Segment). segmentWeight (s .a) (s .b) (s .fraction)) (c .before .cut-at .ensures)
+returns c = c .interpolate .ensures ∙ ap (λ (s : Segment). segmentWeight (s .a) (s .b) (s .fraction)) (c .before .cut-at .ensures)
 
 pub weigh-at-spec : {M : Type 1} → statement M
-weigh-at-spec = tie.close (tie.spec cut-at-requires weigh-requires returns)
+weigh-at-spec = tie.close (tie.spec cut-at-requires interpolate-requires returns)
