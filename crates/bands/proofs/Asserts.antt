@@ -1,10 +1,10 @@
 -- What the source's `interpolate` asserts or takes for granted, of every place of a grid and every band count: the position is not negative, i + 1 is in the list,
 -- and the fraction is a whole number of 2 ^ -32ths, below 1. Mode 5's places too (`freq-..`). Assumes nothing.
-use mathlib.Core.Path.{_≡_, refl, sym, subst}
-use mathlib.Core.Bool.{Bool, true, false, true≢false}
-use Prim.Native.Nat.{ℕ, zero, suc, _+_, _-_, _*_, _^_, _≤_, _<_}
+use mathlib.Core.Path.{_≡_}
+use mathlib.Core.Bool.{true, false, true≢false}
+use Prim.Native.Nat.{ℕ, _+_, _-_, _*_, _^_, _≤_, _<_}
 use native.Mathlib.Omega.{arith}
-use lib.Ieee.{Float, nan, inf, fin, binary32, lt, le}
+use lib.Ieee.{Float, nan, inf, fin, lt}
 use lib.Ieee.Exact.{HasValue}
 use Rattle.bands.specs.Bands.{nought}
 use Rattle.bands.specs.Distance.{distanceOf}

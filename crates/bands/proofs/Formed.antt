@@ -1,25 +1,23 @@
 -- Every b / a that bands form is normal: of a list that passes the BAND test (`ratio-formed`), and of mode 5's four bands where the first is not zero (`own-formed`), subnormal bands included.
 -- The numbers are f32s, each after the first at most 65504 either way. Assumes nothing.
 use mathlib.Core.Path.{_≡_, refl, sym, ap, ap₂, _∙_, subst}
-use mathlib.Core.Logic.{_⊎_, inl, inr, ⊎-elim}
-use mathlib.Core.Bool.{Bool, true, false, not, cond, _&&_, _||_, true≢false}
-use Prim.Native.Nat.{ℕ, zero, suc, _+_, _-_, _*_, _/_, _%_, _^_, _≤_, _<_}
-use native.Mathlib.Nat.{le-refl, le-trans, le-of-eq, lt-of-lt-of-le, lt-of-le-of-lt, le-of-suc-le-suc, not-suc-le-zero, lt-irrefl, mul-assoc, mul-comm, mul-left-comm, mul-right-comm, mul-one, one-mul, zero-mul, mul-pos, mul-le-mul, mul-le-mul-right, mul-le-mul-left, le-of-mul-le-mul-right, zero-lt-suc}
+use mathlib.Core.Logic.{_⊎_, inl, inr}
+use mathlib.Core.Bool.{Bool, true, false, _&&_}
+use Prim.Native.Nat.{ℕ, zero, suc, _+_, _-_, _*_, _^_, _≤_, _<_}
+use native.Mathlib.Nat.{le-trans, le-of-eq, lt-of-lt-of-le, lt-of-le-of-lt, le-of-suc-le-suc, not-suc-le-zero, lt-irrefl, mul-assoc, mul-comm, mul-right-comm, one-mul, zero-mul, mul-pos, mul-le-mul, mul-le-mul-right, le-of-mul-le-mul-right, zero-lt-suc}
 use native.Mathlib.Numerals.{add-one}
 use native.Mathlib.Omega.{arith}
-use lib.Dec.{T, leb, ltb, eqb, leb→le, eqb→eq, lt→ltb, lit<, lit≤}
-use lib.IntN.{ℤ, pos}
+use lib.Dec.{T, leb, leb→le, lt→ltb, lit<, lit≤}
 use lib.Pow.{pow-pos, pow-add, pow-lt}
 use lib.Ieee.{Float, nan, inf, fin, binary32, up, down, unlike, fits, round, mul, div, neg}
 use lib.Ieee.Fits.{down-pos, and-l, and-r, div-fits}
 use lib.Ieee.Exact.{HasValue, round-exact}
 use lib.Ieee.Scale.{grid, overflow, finite}
-use lib.Ieee.Positive.{num, den, positive, positive-finite, positive-of-value, first-pos}
-use Rattle.bitstream.proofs.HalfLaws.{mul-values}
+use lib.Ieee.Positive.{num, den, positive, positive-finite, positive-of-value}
 use Rattle.bands.specs.Close.{Close}
 use Rattle.bands.specs.Power.{normal, P}
 use Rattle.bands.specs.Bands.{multOf, bandAt, barred, sound}
-use Rattle.bands.proofs.Units.{Units, grid-exact, mul-units}
+use Rattle.bands.proofs.Units.{grid-exact, mul-units}
 use Rattle.bands.proofs.WholeUnits.{whole-number}
 use Rattle.bands.proofs.Ranged.{Banded, round-banded}
 use Rattle.bands.proofs.MultRange.{mild, mult-banded, Moderate, moderate}

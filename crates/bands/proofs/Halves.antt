@@ -1,16 +1,16 @@
 -- Half floats are numbers as `Formed` asks: one that is read is at most 65504 either way, and a first one, times 64, is zero or from 2 ^ -24 to 2 ^ 24 in size. Assumes nothing.
 use mathlib.Core.Path.{_≡_, refl, sym, ap, _∙_, subst}
-use mathlib.Core.Logic.{_⊎_, inl, inr, ⊎-elim}
-use mathlib.Core.Bool.{Bool, true, false, _&&_, true≢false}
+use mathlib.Core.Logic.{_⊎_, ⊎-elim}
+use mathlib.Core.Bool.{Bool, false, true≢false}
 use Prim.Native.Nat.{ℕ, zero, suc, _+_, _*_, _/_, _%_, _^_, _≤_, _<_}
-use native.Mathlib.Nat.{le-trans, le-of-eq, lt-of-lt-of-le, mul-assoc, mul-comm, mul-right-comm, mul-one, one-mul, mul-le-mul, mul-le-mul-right, le-of-mul-le-mul-right, eq-zero-or-pos, zero-mul, mul-pos, zero-lt-suc, lt-irrefl}
+use native.Mathlib.Nat.{le-trans, le-of-eq, lt-of-lt-of-le, mul-assoc, mul-right-comm, one-mul, mul-le-mul, mul-le-mul-right, le-of-mul-le-mul-right, mul-pos, zero-lt-suc}
 use native.Mathlib.Omega.{arith}
 use borrow.Author.Tests.{eq-eqb}
-use lib.Dec.{T, leb, eqb, le→leb, lit<, lit≤}
+use lib.Dec.{T, leb, le→leb, lit<, lit≤}
 use lib.IntN.{pos}
 use lib.Pow.{pow-add, pow-pos, pow-mono, shl-lt}
 use lib.Ieee.{Float, nan, inf, fin, binary32, up, down, unlike, fits, round, mul}
-use lib.Ieee.Fits.{down-pos, up-pos, and-i, round-fits, mul-fits}
+use lib.Ieee.Fits.{up-pos, and-i, round-fits, mul-fits}
 use lib.Ieee.Exact.{HasValue, round-exact}
 use lib.Ieee.Scale.{finite}
 use Rattle.bitstream.specs.Half as halves

@@ -36,4 +36,5 @@ pub mod Formed
 pub mod Halves
 pub mod Numbers
 pub mod Asserts
+pub mod LentLaws
 pub mod QuantLaws

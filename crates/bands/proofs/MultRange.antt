@@ -1,22 +1,20 @@
 -- mult(x) lies from 2 ^ -16 to 2 ^ 16 for x up to 65504 either way. Assumes nothing.
 use mathlib.Core.Path.{_≡_, refl, sym, ap, _∙_, subst}
-use mathlib.Core.Logic.{_⊎_, inl, inr}
-use Prim.Native.Nat.{ℕ, zero, suc, _+_, _-_, _*_, _/_, _%_, _^_, _≤_, _<_}
-use native.Mathlib.Nat.{le-refl, le-trans, le-of-eq, le-of-lt, lt-of-lt-of-le, lt-of-le-of-lt, lt-irrefl, not-le-of-lt, mul-le-mul, mul-le-mul-right, mul-le-mul-left, mul-one, mul-pos, zero-mul, eq-zero-or-pos, mul-assoc, mul-comm, mul-left-comm, mul-right-comm, le-of-mul-le-mul-right, zero-lt-suc}
+use Prim.Native.Nat.{ℕ, _+_, _-_, _*_, _^_, _≤_, _<_}
+use native.Mathlib.Nat.{le-refl, le-trans, le-of-eq, lt-of-lt-of-le, mul-le-mul-right, mul-le-mul-left, mul-one, zero-mul, mul-assoc, mul-comm, mul-right-comm, le-of-mul-le-mul-right}
 use native.Mathlib.Omega.{arith}
-use mathlib.Core.Bool.{Bool, true, false, not, _&&_, _||_, cond, true≢false}
-use lib.Dec.{T, ltb, leb, eqb, lit<, lit≤, ltb→lt, nltb→le, leb→le}
-use lib.IntN.{pos, negsuc}
+use mathlib.Core.Bool.{Bool, true, false, not, cond, true≢false}
+use lib.Dec.{T, leb, lit<, lit≤, nltb→le, leb→le}
+use lib.IntN.{pos}
 use lib.Pow.{pow-pos}
-use lib.Ieee.{Float, nan, inf, fin, Format, binary32, prec, low, size, fits, round, add, sub, mul, div, neg, lt, up, down, sum}
-use lib.Ieee.Fits.{up-pos, down-pos, two, two-le-pos}
+use lib.Ieee.{Float, nan, inf, fin, binary32, low, size, fits, add, sub, div, neg, lt, up, down}
+use lib.Ieee.Fits.{down-pos}
 use lib.Ieee.Exact.{HasValue}
-use lib.Ieee.Order.{drop, kept}
-use lib.Ieee.Scale.{grid, overflow, round-val, finite}
+use lib.Ieee.Scale.{finite}
 use lib.Ieee.Positive.{num, den, positive, positive-of-value, value→cross}
 use Rattle.bands.specs.Bands.{nought, one, multOf}
-use Rattle.bands.proofs.Units.{Units, grid-mono, grid-near, mul-units, add-units, sub-units, div-units}
-use Rattle.bands.proofs.WholeUnits.{Whole, whole-number}
+use Rattle.bands.proofs.Units.{Units, add-units, sub-units, div-units}
+use Rattle.bands.proofs.WholeUnits.{whole-number}
 use Rattle.bands.proofs.Ranged.{Banded, round-banded}
 
 -- ---- the factor

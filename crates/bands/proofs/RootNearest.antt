@@ -1,22 +1,21 @@
 -- `rootOf` is the nearest f32 to the root: no other f32 is nearer. Assumes nothing.
 use mathlib.Core.Path.{_≡_, refl, sym, ap, _∙_, subst}
-use mathlib.Core.Logic.{_⊎_, inl, inr, ⊎-elim}
-use Prim.Native.Nat.{ℕ, zero, suc, _+_, _-_, _*_, _/_, _%_, _^_, _≤_, _<_}
-use native.Mathlib.Nat.{le-trans, le-of-eq, le-of-lt, lt-of-lt-of-le, lt-of-le-of-lt, not-le-of-lt, mul-le-mul, mul-le-mul-right, mul-le-mul-left, le-of-mul-le-mul-right, lt-of-mul-lt-mul-right, mul-assoc, mul-pos, suc-mul, pow-suc, le-div-iff-mul-le, sub-add-cancel}
+use mathlib.Core.Logic.{_⊎_, ⊎-elim}
+use Prim.Native.Nat.{ℕ, zero, suc, _+_, _-_, _*_, _/_, _^_, _≤_, _<_}
+use native.Mathlib.Nat.{le-trans, le-of-eq, le-of-lt, lt-of-lt-of-le, lt-of-le-of-lt, not-le-of-lt, mul-le-mul, mul-le-mul-right, le-of-mul-le-mul-right, lt-of-mul-lt-mul-right, mul-assoc, mul-pos, suc-mul, pow-suc, le-div-iff-mul-le, sub-add-cancel}
 use native.Mathlib.Omega.{arith}
 use lib.Dec.{T, lit<, lit≤}
 use lib.Pow.{pow-pos, pow-add, pow-mono}
 use lib.Ieee.{Float, binary32, fits, size}
 use lib.Ieee.Digits.{size-reaches}
 use lib.Ieee.Order.{drop, kept}
-use lib.Ieee.Scale.{finite}
 use lib.Ieee.Positive.{positive, positive-finite, value-pos}
 use Rattle.transform.proofs.Laws.{side}
 use Rattle.bands.specs.Root.{twice, rootOf}
 use Rattle.bands.proofs.Units.{Units, Near, closest-near, kept-ge}
 use Rattle.bands.proofs.WholeUnits.{whole-number, plain, digits-of}
 use Rattle.bands.proofs.Patterns.{size-gt}
-use Rattle.bands.proofs.DoubleRoot.{Twice, twice-is}
+use Rattle.bands.proofs.DoubleRoot.{twice-is}
 use Rattle.bands.proofs.RootOf.{rootUnits, root-units}
 
 -- ---- the rounded root is q * 2 ^ k units, within half of 2 ^ k of the root; t is four times the root in units, or odd and next to it

@@ -1,9 +1,9 @@
 -- `freq::corner_between`. Assumes nothing.
-use mathlib.Core.Path.{_≡_, refl, sym, ap, _∙_, subst}
+use mathlib.Core.Path.{sym, ap, _∙_, subst}
 use Prim.Native.Nat.{ℕ, _+_, _<_}
 use lib.Dec.{lit≤}
 use lib.ListN.{getD}
-use lib.Ieee.{Float, nan, binary32, mul, div, ofBits}
+use lib.Ieee.{nan, binary32, div}
 use Rattle.bands.specs.Bands.{atOf, bandAt}
 use Rattle.bands.specs.Position.{Cut}
 use Rattle.bands.specs.Views.{ratioOf}

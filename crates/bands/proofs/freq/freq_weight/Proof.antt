@@ -1,5 +1,5 @@
 -- `freq::freq_weight` is `freqWeight`, case by case. Assumes nothing.
-use mathlib.Core.Path.{_≡_, refl, sym, ap, _∙_, subst}
+use mathlib.Core.Path.{sym, _∙_}
 use borrow.Author.Needs.{needs}
 use Rattle.bands.proofs.Fields.{no-quotient}
 use Rattle.bands.proofs.Freqs.{freq-cut, on-small, weight-short, weight-none, weight-is}

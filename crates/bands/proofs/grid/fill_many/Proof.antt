@@ -1,15 +1,13 @@
 use native.Mathlib.Nat.{lt-of-le-of-lt}
 use lib.Dec.{lit<}
-use lib.Ieee.{Float}
 -- `grid::fill_many`: place by place (`Laid`). Assumes nothing.
-use mathlib.Core.Path.{_≡_, refl, sym, ap, _∙_, subst}
-use Prim.Native.Nat.{ℕ, _+_, _-_, _*_, _≤_, _<_}
+use Prim.Native.Nat.{_-_, _*_, _≤_, _<_}
 use native.Mathlib.Omega.{arith}
 use borrow.Author.Needs.{needs}
 use Rattle.bands.specs.Bands.{atOf}
 use Rattle.bands.specs.Views.{gridCell, gridOf}
 use Rattle.bands.proofs.Laid.{Laid, laid-none, laid-on, laid-all}
-use Rattle.bands.proofs.Cells.{cell-many, cell-one, ratio-here, area-le, area-pos}
+use Rattle.bands.proofs.Cells.{cell-many, ratio-here, area-le, area-pos}
 use Rattle.bands.proofs.grid.fill_many.Statement.{statement}
 use Rattle.bands.proofs.grid.fill_many.Tie as tie
 

@@ -1,5 +1,5 @@
 -- `grid::interpolate` is `segmentWeight`. Assumes nothing.
-use mathlib.Core.Path.{_≡_, refl, sym, ap, _∙_, subst}
+use mathlib.Core.Path.{ap, _∙_}
 use Prim.Native.Nat.{ℕ}
 use lib.Ieee.{Float, binary32, mul, div}
 use Rattle.bands.specs.Power.{P}

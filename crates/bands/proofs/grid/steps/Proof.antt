@@ -1,14 +1,13 @@
 -- `grid::steps` is `stepsOf`: the product is exact and below 2 ^ 32. Assumes nothing.
-use mathlib.Core.Path.{_≡_, refl, sym, ap, _∙_, subst}
+use mathlib.Core.Path.{_≡_, sym, _∙_, subst}
 use mathlib.Core.Bool.{false}
-use Prim.Native.Nat.{ℕ, _*_, _^_, _<_, _/_}
+use Prim.Native.Nat.{ℕ, _*_, _^_, _<_}
 use native.Mathlib.Nat.{mul-lt-mul-of-pos-right, lt-of-lt-of-le, mul-div-cancel}
-use lib.Dec.{T, lit≤, lit<}
-use lib.IntN.{pos}
+use lib.Dec.{T, lit≤}
 use lib.Pow.{pow-pos}
-use lib.Ieee.{Float, fin, binary32, fits, mul, ofBits, toUnsigned}
+use lib.Ieee.{Float, binary32, fits, mul, ofBits, toUnsigned}
 use lib.Ieee.Exact.{HasValue}
-use Rattle.bands.specs.Views.{Steps, Stepped}
+use Rattle.bands.specs.Views.{Stepped}
 use Rattle.bands.proofs.Position.{index-value}
 use Rattle.bands.proofs.Truncate.{above-minus-one, below-top}
 use Rattle.bands.proofs.TimesPower.{times-power}

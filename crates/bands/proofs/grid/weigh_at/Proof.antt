@@ -1,9 +1,8 @@
 -- `grid::weigh_at` is `between`. Assumes nothing.
-use mathlib.Core.Path.{_≡_, refl, sym, ap, _∙_, subst}
+use mathlib.Core.Path.{_≡_, sym, ap, _∙_, subst}
 use lib.Ieee.{binary32, div}
 use Rattle.bands.specs.declared.spot.Segment.{Segment}
-use Rattle.bands.specs.Views.{Stepped}
-use Rattle.bands.specs.Views.{ratioOf}
+use Rattle.bands.specs.Views.{Stepped, ratioOf}
 use Rattle.bands.specs.Weights.{segmentWeight, between}
 use Rattle.bands.proofs.Cells.{stepped}
 use borrow.Author.Needs.{needs}

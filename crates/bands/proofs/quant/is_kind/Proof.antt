@@ -1,10 +1,8 @@
 -- `quant::is_kind` is `kindIs`. Assumes nothing.
-use mathlib.Core.Path.{_≡_, refl, sym, ap, _∙_, subst}
-use mathlib.Core.Bool.{Bool, true, false}
-use Prim.Native.Nat.{ℕ, _+_, _-_, _*_, _≤_, _<_}
-use native.Mathlib.Omega.{arith}
+use mathlib.Core.Path.{sym, ap, _∙_}
+use Prim.Native.Nat.{ℕ, _-_}
 use lib.Dec.{eqb}
-use Rattle.bands.proofs.QuantLaws.{kind-off, kind-on}
+use Rattle.bands.proofs.LentLaws.{kind-off, kind-on}
 use borrow.Author.Needs.{needs}
 use Rattle.bands.proofs.quant.is_kind.Statement.{statement}
 use Rattle.bands.proofs.quant.is_kind.Tie as tie

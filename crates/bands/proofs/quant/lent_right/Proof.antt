@@ -1,9 +1,9 @@
 -- `quant::lent_right` is `lentRight`, test by test. Assumes nothing.
-use mathlib.Core.Path.{_≡_, refl, sym, ap, _∙_, subst}
-use mathlib.Core.Bool.{Bool, true, false}
-use Prim.Native.Nat.{ℕ, _+_, _-_, _*_, _≤_, _<_}
+use mathlib.Core.Path.{sym, _∙_}
+use mathlib.Core.Bool.{true, false}
+use Prim.Native.Nat.{_-_}
 use native.Mathlib.Omega.{arith}
-use Rattle.bands.proofs.QuantLaws.{undo, grid-sides, lent-none, lent-many, lent-numbers, lent-grid, lent-last}
+use Rattle.bands.proofs.LentLaws.{undo, grid-sides, lent-none, lent-many, lent-numbers, lent-grid, lent-last}
 use Rattle.bands.proofs.Cells.{area-le}
 use borrow.Author.Needs.{needs}
 use Rattle.bands.proofs.quant.lent_right.Statement.{statement}

@@ -1,5 +1,5 @@
 -- `lift` meets its contract: `Lifting` is its invariant. Assumes nothing.
-use Prim.Native.Nat.{ℕ, _-_, _^_}
+use Prim.Native.Nat.{_-_}
 use native.Mathlib.Omega.{arith}
 use borrow.Author.Needs.{needs}
 use Rattle.bands.proofs.Lift.{Lifting, start, start-most, down-to, turn, done}

@@ -1,5 +1,5 @@
 -- `cut_at` is `segmentOf`: the index and the next are in the list, since the position is a `Cut`. Assumes nothing.
-use mathlib.Core.Path.{_≡_, refl, sym, ap, _∙_, subst}
+use mathlib.Core.Path.{sym, ap, subst}
 use Prim.Native.Nat.{ℕ, _≤_, _^_}
 use Rattle.bands.specs.Views.{segmentAt}
 use Rattle.bands.proofs.Truncate.{truncates, index-small, in-float}
