@@ -1,0 +1,184 @@
+-- The bands of a list, step by step: how many are sound, and the array of them. Assumes nothing.
+use mathlib.Core.Path.{_≡_, refl, sym, ap, _∙_, subst}
+use mathlib.Core.Logic.{⊎-elim}
+use mathlib.Core.Bool.{Bool, true, false, cond, not, _&&_, _||_, false≢true}
+use mathlib.Core.List.{List}
+use Prim.Native.Nat.{ℕ, zero, suc, _+_, _-_, _≤_, _<_}
+use native.Mathlib.Nat.{le-of-suc-le-suc, not-suc-le-zero, eq-or-lt-of-le, le-refl, le-trans, lt-of-lt-of-le}
+use native.Mathlib.Numerals.{add-one}
+use native.Mathlib.Omega.{arith}
+use borrow.Author.Tests.{eq-eqb, ne-eqb, eqb-true}
+use lib.Dec.{eqb}
+use lib.ListN.{length, getD, set, length-set}
+use lib.Seq.{getD-set-same, getD-set-other}
+use lib.Ieee.{Float, nan, binary32, mul}
+use Rattle.bands.specs.Bands.{multOf, bandAt, barred, sound}
+use Rattle.bands.specs.Views.{Banding}
+
+-- the first i of n bands are sound, and `last` is the last of them
+pub record Sounding (ps : ℕ → Float) (n i : ℕ) (last : Float) : Type 0 where
+  pub from : 1 ≤ i
+  pub within : i ≤ n
+  pub all : sound ps i ≡ i
+  pub is : last ≡ bandAt ps (i - 1)
+
+-- the first i of n bands stand in the array, and `last` is the last of them
+pub record Filling (ps : ℕ → Float) (n i : ℕ) (last : Float) (l : List Float) : Type 0 where
+  pub from : 1 ≤ i
+  pub within : i ≤ n
+  pub long : length l ≡ 16
+  pub is : last ≡ bandAt ps (i - 1)
+  pub each : (j : ℕ) → j < i → getD l j nan ≡ bandAt ps j
+
+same-last : (i : ℕ) → i ≡ i + 1 - 1
+same-last i = omega arith
+
+same-end : (n i : ℕ) → n ≤ i → i ≤ n → i ≡ n
+same-end n i h g = omega arith
+
+module _ (ps : ℕ → Float) where
+  sound-step : (i : ℕ) (b : Bool) → sound ps i ≡ i → (eqb i 0 || not (barred (bandAt ps i))) ≡ b → sound ps (suc i) ≡ cond b (suc i) i
+  unfolding sound
+  sound-step i b e f =
+      ap (λ (t : Bool). cond (t && (eqb i 0 || not (barred (bandAt ps i)))) (suc i) (sound ps i)) (eq-eqb (sound ps i) i e)
+      ∙ ap (λ (t : Bool). cond t (suc i) (sound ps i)) f
+      ∙ ap (λ (k : ℕ). cond b (suc i) k) e
+
+  sound-one : sound ps 1 ≡ 1
+  unfolding sound
+  sound-one = refl
+
+  sound-on : (i : ℕ) → sound ps i ≡ i → barred (bandAt ps i) ≡ false → sound ps (suc i) ≡ suc i
+  sound-on i e f = sound-step i true e (ap (λ (t : Bool). eqb i 0 || not t) f ∙ or-true (eqb i 0))
+    where
+      or-true : (b : Bool) → (b || true) ≡ true
+      or-true true = refl
+      or-true false = refl
+
+  sound-off : (i : ℕ) → 1 ≤ i → sound ps i ≡ i → barred (bandAt ps i) ≡ true → sound ps (suc i) ≡ i
+  sound-off i h e f = sound-step i false e (ap (λ (t : Bool). eqb i 0 || not t) f ∙ ap (λ (t : Bool). t || false) (ne-eqb i 0 (λ z. omega arith)))
+
+  -- once refused, it stays
+  sound-stays : (i m : ℕ) → i < m → sound ps m ≡ i → sound ps (suc m) ≡ i
+  unfolding sound
+  sound-stays i m h e = ap (λ (t : Bool). cond (t && (eqb m 0 || not (barred (bandAt ps m)))) (suc m) (sound ps m)) (ne-eqb (sound ps m) m (λ z. off z)) ∙ e
+    where
+      off : sound ps m ≡ m → ⊥
+      off z = omega arith
+
+  sound-ends : (i m : ℕ) → sound ps (suc i) ≡ i → i < m → sound ps m ≡ i
+  sound-ends i zero e h = absurd (not-suc-le-zero h)
+  sound-ends i (suc m) e h = ⊎-elim (λ z. subst (λ (k : ℕ). sound ps (suc k) ≡ i) z e) (λ l. sound-stays i m l (sound-ends i m e l)) (eq-or-lt-of-le (le-of-suc-le-suc h))
+
+  pub opened : (i : ℕ) → mul binary32 (bandAt ps i) (multOf (ps (suc i))) ≡ bandAt ps (suc i)
+  unfolding bandAt
+  opened i = refl
+
+  sound-zero : sound ps 0 ≡ 0
+  unfolding sound
+  sound-zero = refl
+
+  pub first-band : bandAt ps 0 ≡ ps 0
+  unfolding bandAt
+  first-band = refl
+
+  band-next : (i : ℕ) (last x : Float) → 1 ≤ i → last ≡ bandAt ps (i - 1) → x ≡ ps i → mul binary32 last (multOf x) ≡ bandAt ps i
+  band-next zero last x h e f = absurd (not-suc-le-zero h)
+  band-next (suc i) last x h e f =
+      ap (λ (y : Float). mul binary32 y (multOf x)) (e ∙ ap (bandAt ps) (less i)) ∙ ap (λ (y : Float). mul binary32 (bandAt ps i) (multOf y)) f ∙ opened i
+    where
+      less : (i : ℕ) → suc i - 1 ≡ i
+      less i = omega arith
+
+  -- ---- `sound_bands`
+  pub none-sound : (n : ℕ) → n ≡ 0 → 0 ≡ sound ps n
+  none-sound n e = sym (ap (sound ps) e ∙ sound-zero)
+
+  pub sounding-one : (n : ℕ) → (n ≡ 0 → ⊥) → Sounding ps n 1 (ps 0)
+  sounding-one n h = record { from = le-refl 1; within = omega arith; all = sound-one; is = sym first-band }
+
+  module _ (n i : ℕ) (last m : Float) (s : Sounding ps n i last) (e : m ≡ multOf (ps i)) where
+    next : mul binary32 last m ≡ bandAt ps i
+    next = ap (mul binary32 last) e ∙ band-next i last (ps i) (s .from) (s .is) refl
+
+    pub sounding-more : i < n → barred (mul binary32 last m) ≡ false → Sounding ps n (i + 1) (mul binary32 last m)
+    sounding-more h f = record {
+      from = omega arith;
+      within = omega arith;
+      all = ap (sound ps) (add-one i) ∙ sound-on i (s .all) (sym (ap barred next) ∙ f) ∙ sym (add-one i);
+      is = next ∙ ap (bandAt ps) (same-last i);
+    }
+
+    pub sounding-stop : i < n → barred (mul binary32 last m) ≡ true → i ≡ sound ps n
+    sounding-stop h f = sym (sound-ends i n (sound-off i (s .from) (s .all) (sym (ap barred next) ∙ f)) h)
+
+  pub sounding-all : (n i : ℕ) (last : Float) → n ≤ i → Sounding ps n i last → i ≡ sound ps n
+  sounding-all n i last h s = sym (s .all) ∙ ap (sound ps) (same-end n i h (s .within))
+
+  -- ---- `bands_of`
+  pub filling-one : (n : ℕ) (l : List Float) → 1 ≤ n → length l ≡ 16 → Filling ps n 1 (ps 0) (set l 0 (ps 0))
+  filling-one n l h e = record { from = le-refl 1; within = h; long = length-set l 0 (ps 0) ∙ e; is = sym first-band; each = first }
+    where
+      first : (j : ℕ) → j < 1 → getD (set l 0 (ps 0)) j nan ≡ bandAt ps j
+      first zero g = getD-set-same l 0 (ps 0) nan (omega arith) ∙ sym first-band
+      first (suc j) g = absurd (not-suc-le-zero (le-of-suc-le-suc g))
+
+  pub filling-more : (n i : ℕ) (last m : Float) (l : List Float) → Filling ps n i last l → m ≡ multOf (ps i) → i < n → n ≤ 16 → Filling ps n (i + 1) (mul binary32 last m) (set l i (mul binary32 last m))
+  filling-more n i last m l s e h top = record {
+    from = omega arith;
+    within = omega arith;
+    long = length-set l i b ∙ s .long;
+    is = new ∙ ap (bandAt ps) (same-last i);
+    each = λ j g. ⊎-elim (λ q. here j q) (λ k. old j k) (eq-or-lt-of-le (under j g));
+  }
+    where
+      b : Float
+      b = mul binary32 last m
+
+      new : mul binary32 last m ≡ bandAt ps i
+      new = ap (mul binary32 last) e ∙ band-next i last (ps i) (s .from) (s .is) refl
+
+      under : (j : ℕ) → j < i + 1 → j ≤ i
+      under j g = omega arith
+
+      fit : i < length l
+      fit = subst (λ (k : ℕ). i < k) (sym (s .long)) (omega arith)
+
+      here : (j : ℕ) → j ≡ i → getD (set l i b) j nan ≡ bandAt ps j
+      here j q = ap (λ (k : ℕ). getD (set l i b) k nan) q ∙ getD-set-same l i b nan fit ∙ new ∙ ap (bandAt ps) (sym q)
+
+      old : (j : ℕ) → j < i → getD (set l i b) j nan ≡ bandAt ps j
+      old j k = getD-set-other l i j b nan (λ q. omega arith) ∙ s .each j k
+
+  pub filling-all : (n i : ℕ) (last : Float) (l : List Float) → n ≤ i → Filling ps n i last l → Banding ps n l
+  filling-all n i last l h s = record { each = λ j g. s .each j (lt-of-lt-of-le g h) }
+
+  -- ---- where all are sound, none after the first is refused
+  sound-le : (n : ℕ) → sound ps n ≤ n
+  unfolding sound
+  sound-le zero = le-refl 0
+  sound-le (suc n) = go (eqb (sound ps n) n && (eqb n 0 || not (barred (bandAt ps n)))) (sound-le n)
+    where
+      go : (b : Bool) → sound ps n ≤ n → cond b (suc n) (sound ps n) ≤ suc n
+      go true h = le-refl (suc n)
+      go false h = le-trans h (native.Mathlib.Nat.le-suc n)
+
+  before : (n : ℕ) → sound ps (suc n) ≡ suc n → (sound ps n ≡ n) × ((eqb n 0 || not (barred (bandAt ps n))) ≡ true)
+  unfolding sound
+  before n e = go (eqb (sound ps n) n) (eqb n 0 || not (barred (bandAt ps n))) refl refl e
+    where
+      over : sound ps n ≡ suc n → ⊥
+      over q = let h : sound ps n ≤ n = sound-le n in omega arith
+
+      go : (a b : Bool) → eqb (sound ps n) n ≡ a → (eqb n 0 || not (barred (bandAt ps n))) ≡ b → cond (a && b) (suc n) (sound ps n) ≡ suc n → (sound ps n ≡ n) × (b ≡ true)
+      go true true f g q = (eqb-true (sound ps n) n f, refl)
+      go true false f g q = absurd (over q)
+      go false b f g q = absurd (over q)
+
+  pub all-sound : (n j : ℕ) → sound ps n ≡ n → 1 ≤ j → j < n → barred (bandAt ps j) ≡ false
+  all-sound zero j e h l = absurd (not-suc-le-zero l)
+  all-sound (suc n) j e h l = ⊎-elim (λ q. subst (λ (k : ℕ). barred (bandAt ps k) ≡ false) (sym q) (last (eqb n 0) (barred (bandAt ps n)) (ne-eqb n 0 (λ z. omega arith)) (before n e .1))) (λ q. all-sound n j (before n e .0) h q) (eq-or-lt-of-le (le-of-suc-le-suc l))
+    where
+      last : (a b : Bool) → a ≡ false → (a || not b) ≡ true → b ≡ false
+      last a true f g = absurd (false≢true (sym (ap (λ (t : Bool). t || false) f) ∙ g))
+      last a false f g = refl

@@ -1,0 +1,118 @@
+-- What private functions ask of and promise each other. No public contract cites these. Definitions only.
+use mathlib.Core.Path.{_≡_}
+use mathlib.Core.Bool.{Bool, true, false, cond}
+use mathlib.Core.List.{[], List, _∷_}
+use Prim.Native.Nat.{ℕ, zero, suc, _+_, _-_, _*_, _/_, _%_, _^_, _≤_, _<_}
+use lib.IntN.{pos}
+use lib.ListN.{length, getD, set, replicate}
+use lib.Ieee.{Float, nan, binary32, sub, div, ofInt}
+use lib.Ieee.Exact.{HasValue}
+use Rattle.bands.specs.Root.{wholeRoot}
+use Rattle.bands.specs.Power.{field, scaled, normal}
+use Rattle.bands.specs.Bands.{atOf, bandAt}
+use Rattle.bands.specs.Distance.{distanceOf}
+use Rattle.bands.specs.Position.{positionOf, indexOf, Cut}
+use Rattle.bands.specs.Weights.{bandWeight}
+use Rattle.bands.specs.Table.{tab}
+use Rattle.bands.specs.declared.own_power.Ratio.{Ratio}
+use Rattle.bands.specs.declared.quant.Banded.{Banded}
+use Rattle.bands.specs.declared.quant.Banded.the-variants.{Done, Lent, Band}
+use Rattle.bands.specs.declared.spot.Segment.{Segment}
+
+-- ---- roots
+-- m * 2 ^ e units, times 2 ^ 151, as n * 4 ^ h, with n even and of 49 or 50 binary digits
+pub record Lifted (m e n h : ℕ) : Type 0 where
+  pub same : n * 4 ^ h ≡ m * 2 ^ e * 2 ^ 151
+  pub least : 2 ^ 48 ≤ n
+  pub most : n < 2 ^ 50
+  pub even : n % 2 ≡ 0
+  pub near : h ≤ 189
+
+-- ---- chains, as lists
+-- the first k of the chain from r
+unfoldable pub chainFrom : ℕ → ℕ → List ℕ
+unfolding wholeRoot
+chainFrom r zero = []
+chainFrom r (suc k) = r ∷ chainFrom (wholeRoot (r * 2 ^ 31)) k
+
+-- a list is a chain from a number between 2 ^ 31 and 2 ^ 32
+pub record IsChain (l : List ℕ) : Type 0 where
+  pub is : l ≡ chainFrom (getD l 0 0) 33
+  pub low : 2 ^ 31 ≤ getD l 0 0
+  pub high : getD l 0 0 ≤ 2 ^ 32
+
+-- what P needs of a q: for one that is not normal or not above zero, and for any
+abbrev pub none : Ratio
+none = record { e = 0; roots = replicate 33 0 }
+
+unfoldable pub ratioOf : Float → Ratio
+ratioOf q = cond (normal q) (record { e = field q; roots = chainFrom (scaled q) 33 }) none
+
+-- what stands past the end of a list of ratios
+abbrev pub absent : Ratio
+absent = record { e = 0; roots = [] }
+
+-- r is the ratios of each of the bands to the one before it
+pub record AllRatios (bands : List Float) (r : List Ratio) : Type 0 where
+  pub long : length r ≡ 15
+  pub each : (i : ℕ) → i < 15 → getD r i absent ≡ ratioOf (div binary32 (getD bands (i + 1) nan) (getD bands i nan))
+
+-- ---- segments
+-- bands i and i + 1, and what p has beyond i
+abbrev pub segmentAt : List Float → Float → ℕ → Segment
+segmentAt bs p i = record { a = atOf bs i; b = atOf bs (i + 1); fraction = sub binary32 p (ofInt binary32 (pos i)) }
+
+abbrev pub segmentOf : List Float → Float → Segment
+segmentOf bs p = segmentAt bs p (indexOf p)
+
+-- f is n / 2 ^ 32, for a whole n below 2 ^ 32
+pub record Steps (f : Float) (n : ℕ) : Type 0 where
+  pub small : n < 2 ^ 32
+  pub value : HasValue f false n (2 ^ 32)
+
+pub record Stepped (f : Float) : Type 0 where
+  pub n : ℕ
+  pub steps : Steps f n
+
+-- ---- grids
+-- a grid that the positions are proved for, and a list that it fills
+pub record Grid (n w h size : ℕ) : Type 0 where
+  pub some : 1 ≤ n
+  pub few : n ≤ 16
+  pub wide : 2 ≤ w
+  pub not-wider : w ≤ 256
+  pub high : 2 ≤ h
+  pub not-higher : h ≤ 256
+  pub all : size ≡ 3 * (w * h)
+
+-- the position of place q of a grid
+pub record Placed (q n w h : ℕ) (p : Float) : Type 0 where
+  pub is : p ≡ positionOf (distanceOf (q % w) (q / w) (w - 1) (h - 1)) n
+  pub cut : Cut n p
+
+-- a list of three channels with place q of each set
+abbrev pub putOf : List Float → ℕ → ℕ → Float → Float → Float → List Float
+putOf l area q v0 v1 v2 = set (set (set l q v0) (area + q) v1) (area + area + q) v2
+
+-- one of three arrays
+abbrev pub arrayOf : List Float → List Float → List Float → ℕ → List Float
+arrayOf a b c zero = a
+arrayOf a b c (suc zero) = b
+arrayOf a b c (suc (suc k)) = c
+
+-- three channels of weights, in raster order, by the bands in three arrays
+abbrev pub gridCell : List Float → List Float → List Float → ℕ → ℕ → ℕ → ℕ → ℕ → Float
+gridCell a b c n w h k q = bandWeight (atOf (arrayOf a b c k)) n w h (q / w) (q % w)
+
+unfoldable pub gridOf : List Float → List Float → List Float → ℕ → ℕ → ℕ → List Float
+gridOf a b c n w h = tab (3 * (w * h)) (λ p. gridCell a b c n w h (p / (w * h)) (p % (w * h)))
+
+-- the bands of n numbers, in an array
+pub record Banding (ps : ℕ → Float) (n : ℕ) (l : List Float) : Type 0 where
+  pub each : (i : ℕ) → i < n → getD l i nan ≡ bandAt ps i
+
+-- ---- answers: DONE or not
+abbrev pub isDone : Banded → Bool
+isDone Done = true
+isDone Lent = false
+isDone (Band c i) = false

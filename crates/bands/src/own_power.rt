@@ -1,0 +1,191 @@
+// Document 01's own power P(q, f), f = n / 2^32, in whole numbers.
+use crate::whole::whole_root;
+ghost use mathlib.Core.Path.{_≡_};
+ghost use mathlib.Core.Bool.{false};
+ghost use Prim.Native.Nat.{ℕ, _+_, _-_, _*_, _/_, _^_, _<_, _≤_};
+ghost use lib.ListN.{getD};
+ghost use lib.Ieee.{nan, binary32, round};
+ghost use lib.Ieee.Nearest.{closest};
+ghost use Rattle.bands.specs.Power.{products, powerOf, P};
+ghost use Rattle.bands.specs.Views.{chainFrom, IsChain, ratioOf, AllRatios};
+
+// The chain from s: each next one is the whole root of (last * 2^31).
+fn chain(s: u32) -> [u64; 33]
+    ensures { λ r. ⌜ r ≡ chainFrom s 33 ⌝ }
+{
+    let mut roots = [0u64; 33];
+    let mut last = s as u64;
+    let mut j: usize = 0;
+    while j < 33 {
+        roots[j] = last;
+        last = whole_root(last * 2147483648);
+        j += 1;
+    }
+    roots
+}
+
+// The chain from 2^32.
+const TOP: [u64; 33] = [
+    4294967296,
+    3037000499,
+    2553802833,
+    2341847523,
+    2242560871,
+    2194507416,
+    2170868211,
+    2159144271,
+    2153306066,
+    2150392886,
+    2148937774,
+    2148210587,
+    2147847086,
+    2147665359,
+    2147574501,
+    2147529074,
+    2147506360,
+    2147495003,
+    2147489325,
+    2147486486,
+    2147485066,
+    2147484356,
+    2147484001,
+    2147483824,
+    2147483735,
+    2147483691,
+    2147483669,
+    2147483658,
+    2147483652,
+    2147483649,
+    2147483648,
+    2147483648,
+    2147483648,
+];
+
+fn top_chain() -> [u64; 33]
+    ensures { λ r. ⌜ r ≡ chainFrom 4294967296 33 ⌝ }
+{
+    TOP
+}
+
+// y times those of a chain whose bit n has, each product divided by 2^31, downward.
+fn row(roots: &[u64; 33], n: u64, y: u64) -> u64
+    requires { ⌜ IsChain (now roots) ⌝ }
+    requires { ⌜ (0 < y) × (y ≤ 2 ^ 31) × (n < 2 ^ 32) ⌝ }
+    ensures { λ r. ⌜ r ≡ products (getD (now (roots .entry)) 0 0) n y 32 ⌝ }
+{
+    let mut z = y;
+    let mut j: usize = 0;
+    while j < 32 {
+        if (n >> (31 - j)) % 2 == 1 {
+            z = (z * roots[j + 1]) >> 31;
+        }
+        j += 1;
+    }
+    z
+}
+
+// x / 2^k to the nearest whole number, a tie to the even one.
+fn nearest_shift(x: u64, k: u64) -> u64
+    requires { ⌜ (x < 2 ^ 62) × (k < 62) ⌝ }
+    ensures { λ r. ⌜ r ≡ closest x (2 ^ k) ⌝ }
+{
+    let unit = 1u64 << k;
+    let whole = x >> k;
+    let rest = (x % unit) * 2;
+    if rest < unit {
+        whole
+    } else if unit < rest {
+        whole + 1
+    } else {
+        whole + whole % 2
+    }
+}
+
+// y * 2^i / 2^157 rounded once, for a y of 31 or 32 digits.
+fn rounded(y: u64, i: u64) -> f32
+    requires { ⌜ (2 ^ 30 ≤ y) × (y < 2 ^ 32) × (1 ≤ i) × (i < 254) ⌝ }
+    ensures { λ r. ⌜ r ≡ round binary32 false (y * 2 ^ i) (2 ^ 157) ⌝ }
+{
+    if y < 2147483648 {
+        f32::from_bits(((i - 1) * 8388608 + nearest_shift(y, 7)) as u32)
+    } else {
+        f32::from_bits((i * 8388608 + nearest_shift(y, 8)) as u32)
+    }
+}
+
+// The power from the chain of s and the field e of a q, at n.
+fn power_from(roots: &[u64; 33], e: u64, n: u64) -> f32
+    requires { ⌜ IsChain (now roots) ⌝ }
+    requires { ⌜ (getD (now roots) 0 0 ≤ 2 ^ 32 - 2 ^ 8) × (1 ≤ e) × (e < 255) × (n < 2 ^ 32) ⌝ }
+    ensures { λ r. ⌜ r ≡ powerOf (getD (now (roots .entry)) 0 0) e n ⌝ }
+{
+    let turns = e * n + 127 * (4294967296 - n);
+    let top = top_chain();
+    let first = row(roots, n, 1073741824);
+    let y = row(&top, turns % 4294967296, first);
+    rounded(y, turns >> 32)
+}
+
+// What P needs of q: its field e and the chain of its s. e is 0 for a q that is not normal or not above zero.
+pub struct Ratio {
+    pub e: u64,
+    pub roots: [u64; 33],
+}
+
+// What P needs of q, once for any number of powers of q.
+pub(crate) fn ratio_of(q: f32) -> Ratio
+    ensures { λ r. ⌜ r ≡ ratioOf q ⌝ }
+{
+    if q != q {
+        return Ratio {
+            e: 0,
+            roots: [0; 33],
+        };
+    }
+    let bits = f32::to_bits(q);
+    let e = bits >> 23;
+    if e < 1 || e >= 255 {
+        return Ratio {
+            e: 0,
+            roots: [0; 33],
+        };
+    }
+    let roots = chain((8388608 + bits % 8388608) * 256);
+    Ratio {
+        e: e as u64,
+        roots: roots,
+    }
+}
+
+// P(q, n / 2^32) for the q whose ratio r is.
+pub(crate) fn power_at(r: Ratio, q: f32, n: u32) -> f32
+    requires { ⌜ r ≡ ratioOf q ⌝ }
+    ensures { λ y. ⌜ y ≡ P q n ⌝ }
+{
+    let e = r.e;
+    if e == 0 {
+        return 0.0 / 0.0;
+    }
+    let roots = r.roots;
+    power_from(&roots, e, n as u64)
+}
+
+// P(q, n / 2^32): the power of a q that is normal and above zero, and a NaN for any other q.
+pub fn power(q: f32, n: u32) -> f32
+    ensures { λ r. ⌜ r ≡ P q n ⌝ }
+{
+    power_at(ratio_of(q), q, n)
+}
+
+// The ratio of each band to the one before it.
+pub(crate) fn ratios(bands: &[f32; 16]) -> [Ratio; 15]
+    ensures { λ r. ⌜ AllRatios (now (bands .entry)) r ⌝ }
+{
+    let mut all = [ratio_of(1.0); 15];
+    let mut i: usize = 0;
+    while i < 15 {
+        all[i] = ratio_of(bands[i + 1] / bands[i]);
+        i += 1;
+    }
+    all
+}
