@@ -1,19 +1,19 @@
 -- P is within one part in 1,000,000 of q to the power n / 2 ^ 32, P(1, f) = 1 and P(q, 0) = 1. Assumes nothing.
 use mathlib.Core.Path.{_≡_, refl, sym, ap, ap₂, _∙_, subst}
-use mathlib.Core.Bool.{Bool, true, false, not, cond, _&&_}
-use Prim.Native.Nat.{ℕ, zero, suc, _+_, _-_, _*_, _/_, _%_, _^_, _≤_, _<_}
-use native.Mathlib.Nat.{le-trans, le-of-eq, le-of-lt, lt-of-lt-of-le, mul-comm, mul-assoc, mul-left-comm, mul-one, mul-le-mul, mul-le-mul-left, mul-le-mul-right, le-of-mul-le-mul-right, mul-pos, mod-lt, div-one, pow-suc}
+use mathlib.Core.Bool.{Bool, true, false, not, cond}
+use Prim.Native.Nat.{ℕ, _+_, _-_, _*_, _/_, _%_, _^_, _≤_, _<_}
+use native.Mathlib.Nat.{le-trans, le-of-eq, le-of-lt, lt-of-lt-of-le, mul-le-mul, mul-le-mul-right, le-of-mul-le-mul-right, mod-lt, div-one}
 use native.Mathlib.Omega.{arith}
 use lib.Dec.{T, leb, leb→le, nleb→lt, lit<, lit≤}
 use lib.Pow.{pow-add, pow-pos, pow-mono}
-use lib.Ieee.{Float, nan, binary32, round, fits}
+use lib.Ieee.{Float, nan, binary32, fits}
 use lib.Ieee.Positive.{num, den, positive}
 use Rattle.bands.specs.Close.{Close}
-use Rattle.bands.specs.Power.{chain, products, field, scaled, normal, turns, mantissa, powerOf, P}
+use Rattle.bands.specs.Power.{products, field, scaled, normal, turns, mantissa, powerOf, P}
 use Rattle.bands.proofs.Powers.{pow-mul, rows-over, rows-under, near-over, near-under, root-small}
 use Rattle.bands.proofs.Chains.{products-ge, products-lt, products-over, products-under, lossA, lossB}
 use Rattle.bands.proofs.Rounding.{largest, Near32, near32}
-use Rattle.bands.proofs.Fields.{Normal, normal-is, Is, fields-are}
+use Rattle.bands.proofs.Fields.{normal-is, fields-are}
 
 -- 2 ^ 32 as an exponent, shut: antt would work 2 ^ 157 to this power out
 parts : ℕ

@@ -1,16 +1,13 @@
 -- Two lists of bands that agree as far as they go give the same weights. Assumes nothing.
-use mathlib.Core.Path.{_≡_, refl, sym, ap, _∙_, subst}
+use mathlib.Core.Path.{_≡_, sym, ap, _∙_}
 use mathlib.Core.Logic.{⊎-elim}
-use mathlib.Core.Bool.{Bool, true, false, cond}
-use mathlib.Core.List.{List}
-use Prim.Native.Nat.{ℕ, zero, suc, _+_, _-_, _*_, _/_, _%_, _≤_, _<_}
-use native.Mathlib.Nat.{mod-lt, div-lt-iff-lt-mul, lt-of-lt-of-le, le-of-eq, le-of-suc-le-suc, not-suc-le-zero, eq-or-lt-of-le, le-refl}
+use mathlib.Core.Bool.{Bool, cond}
+use Prim.Native.Nat.{ℕ, _+_, _-_, _≤_, _<_}
+use native.Mathlib.Nat.{eq-or-lt-of-le}
 use native.Mathlib.Omega.{arith}
 use borrow.Author.Tests.{ne-eqb, eq-eqb}
 use lib.Dec.{eqb}
-use lib.ListN.{getD}
-use lib.Ieee.{Float, nan}
-use Rattle.bands.specs.Bands.{atOf, bandAt}
+use lib.Ieee.{Float}
 use Rattle.bands.specs.Distance.{distanceOf}
 use Rattle.bands.specs.Position.{positionOf, indexOf, fractionOf, Cut}
 use Rattle.bands.specs.Weights.{segmentWeight, between, bandWeight}

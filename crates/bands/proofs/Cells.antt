@@ -1,23 +1,20 @@
 -- A cell of a grid by its position, and what the calls on the way to it ask. Assumes nothing.
 use mathlib.Core.Path.{_≡_, refl, sym, ap, _∙_, subst}
-use mathlib.Core.Bool.{Bool, true, false, cond}
+use mathlib.Core.Bool.{Bool, cond}
 use mathlib.Core.List.{List}
-use Prim.Native.Nat.{ℕ, zero, suc, _+_, _-_, _*_, _/_, _%_, _≤_, _<_}
+use Prim.Native.Nat.{ℕ, _+_, _-_, _*_, _/_, _%_, _≤_, _<_}
 use native.Mathlib.Nat.{mod-lt, div-lt-iff-lt-mul, lt-of-lt-of-le, mul-comm, mul-le-mul, le-trans}
 use native.Mathlib.Omega.{arith}
 use borrow.Author.Tests.{ne-eqb}
-use lib.Dec.{eqb}
-use lib.ListN.{length, getD}
+use lib.ListN.{getD}
 use lib.Ieee.{Float, nan, binary32, div}
 use Rattle.bands.specs.Distance.{distanceOf}
-use Rattle.bands.specs.Position.{positionOf, indexOf, fractionOf, Cut}
-use Rattle.bands.specs.Views.{Stepped}
+use Rattle.bands.specs.Position.{positionOf, fractionOf, Cut}
+use Rattle.bands.specs.Views.{Stepped, absent, ratioOf, AllRatios, Placed}
 use Rattle.bands.proofs.Position.{position-cut}
 use Rattle.bands.specs.declared.own_power.Ratio.{Ratio}
-use Rattle.bands.specs.Views.{absent, ratioOf, AllRatios}
 use Rattle.bands.specs.Bands.{atOf}
 use Rattle.bands.specs.Weights.{between, bandWeight}
-use Rattle.bands.specs.Views.{Grid, Placed}
 
 pub stepped : (n : ℕ) (p : Float) → Cut n p → Stepped (fractionOf p)
 stepped n p c = record { n = c .n; steps = record { small = c .small; value = c .fraction } }

@@ -1,13 +1,13 @@
 -- A chain as a list, how it is filled, and what a row of products does in one turn. Assumes nothing.
 use mathlib.Core.Path.{_≡_, refl, sym, ap, _∙_, subst}
-use mathlib.Core.Logic.{_≢_, _⊎_, inl, inr}
-use mathlib.Core.Bool.{Bool, true, false, not, cond}
-use mathlib.Core.List.{List, [], _∷_}
-use Prim.Native.Nat.{ℕ, zero, suc, _+_, _-_, _*_, _/_, _%_, _^_, _≤_, _<_, zero-le, suc-le-suc}
+use mathlib.Core.Logic.{_⊎_, inl, inr}
+use mathlib.Core.Bool.{Bool, true, false, cond}
+use mathlib.Core.List.{List}
+use Prim.Native.Nat.{ℕ, zero, suc, _+_, _-_, _*_, _/_, _%_, _^_, _≤_, _<_, zero-le}
 use native.Mathlib.Nat.{le-trans, le-of-eq, le-of-lt, le-of-suc-le-suc, lt-of-lt-of-le, lt-of-le-of-lt, lt-irrefl, mul-le-mul, not-suc-le-zero}
 use native.Mathlib.Numerals.{add-one}
 use native.Mathlib.Omega.{arith}
-use lib.Dec.{T, eqb, eqb→eq, lit<, lit≤}
+use lib.Dec.{T, eqb, eqb→eq, lit<}
 use lib.ListN.{length, getD, set, length-set}
 use lib.Seq.{ext-getD, getD-set-same, getD-set-other}
 use lib.Ieee.Fits.{eq→eqb}
@@ -45,7 +45,7 @@ pub filling-none : (r : ℕ) (l : List ℕ) → length l ≡ 33 → Filling r l 
 unfolding chain
 filling-none r l h = record { most = zero-le; long = h; next = refl; done = λ i b. absurd (not-suc-le-zero b) }
 
-split-lt : (i j : ℕ) → i < j + 1 → (i ≡ j) ⊎ (i < j)
+pub split-lt : (i j : ℕ) → i < j + 1 → (i ≡ j) ⊎ (i < j)
 split-lt i j h = native.Mathlib.Nat.eq-or-lt-of-le (omega arith)
 
 pub filling-more : (r : ℕ) (l : List ℕ) (last j w : ℕ) → Filling r l last j → j < 33 → w ≡ wholeRoot (last * 2 ^ 31) → Filling r (set l j last) w (j + 1)

@@ -1,16 +1,15 @@
 -- The distance is 0, or from 2 ^ -8 to the f32 root of 2. Assumes nothing.
 use mathlib.Core.Path.{_≡_, refl, sym, ap, _∙_, subst}
 use mathlib.Core.Logic.{_⊎_, inl, inr}
-use Prim.Native.Nat.{ℕ, zero, suc, _+_, _-_, _*_, _/_, _%_, _^_, _≤_, _<_}
-use native.Mathlib.Nat.{le-trans, le-of-eq, le-of-lt, lt-of-lt-of-le, lt-of-le-of-lt, lt-irrefl, mul-le-mul, mul-le-mul-right, mul-lt-mul-of-pos-right, mul-one, mul-pos, zero-mul, zero-lt-suc, eq-zero-or-pos, mul-assoc, mul-comm, mul-left-comm}
+use Prim.Native.Nat.{ℕ, zero, suc, _+_, _-_, _*_, _^_, _≤_, _<_}
+use native.Mathlib.Nat.{le-trans, le-of-eq, lt-of-lt-of-le, lt-of-le-of-lt, lt-irrefl, mul-le-mul, mul-le-mul-right, mul-one, mul-pos, zero-mul, zero-lt-suc, eq-zero-or-pos}
 use native.Mathlib.Omega.{arith}
-use mathlib.Core.Bool.{Bool, true, false, true≢false}
-use lib.Dec.{T, ltb, leb, lit<, lit≤}
+use mathlib.Core.Bool.{true, false, true≢false}
+use lib.Dec.{lit<, lit≤}
 use lib.IntN.{pos}
 use lib.Pow.{pow-pos}
-use lib.Ieee.{Float, nan, inf, fin, Format, binary32, size, round, add, mul, div, ofInt, up, down}
+use lib.Ieee.{Float, nan, inf, fin, binary32, size, round, add, mul, ofInt, down}
 use lib.Ieee.Fits.{up-pos}
-use lib.Ieee.Scale.{grid, overflow, round-val}
 use Rattle.bands.specs.Root.{wholeRoot, rootOf, twice}
 use Rattle.bands.specs.Distance.{shareOf, distanceOf}
 use Rattle.bands.proofs.Units.{Units, mul-units, add-units, div-units}

@@ -1,10 +1,14 @@
+-- The laws, on plain values. `Roots`: the whole root; `RootNearest`: the rounded root is the nearest; `Accuracy` and `Ones`: the power; `Position` and `Asserts`: index and fraction;
+-- `Formed` and `Halves`: every ratio of bands is normal; `Numbers`: P7; `TableLaws`: lists by their places.
 pub mod Roots
 pub mod DoubleRoot
 pub mod Units
+pub mod WholeUnits
 pub mod Rounding
 pub mod Patterns
 pub mod Fields
 pub mod RootOf
+pub mod RootNearest
 pub mod RootFields
 pub mod Lift
 pub mod Written
@@ -13,18 +17,24 @@ pub mod Chains
 pub mod ChainLists
 pub mod Accuracy
 pub mod Ones
-pub mod BandRatios
 pub mod RatioLaws
 pub mod Ranged
 pub mod Distance
 pub mod Position
-pub mod TimesPower
 pub mod Truncate
+pub mod TimesPower
+pub mod Freqs
 pub mod MultRange
 pub mod TableLaws
 pub mod Laid
 pub mod Cells
-pub mod Sound
-pub mod Freqs
 pub mod Agree
+pub mod Sound
+pub mod Signs
+pub mod BandRatios
+pub mod Formed
+pub mod Halves
+pub mod Numbers
+pub mod Asserts
+pub mod LentLaws
 pub mod QuantLaws

@@ -1,20 +1,20 @@
 -- mult(x) lies from 2 ^ -16 to 2 ^ 16 for x up to 65504 either way. Assumes nothing.
 use mathlib.Core.Path.{_≡_, refl, sym, ap, _∙_, subst}
-use mathlib.Core.Logic.{_⊎_, inl, inr}
-use Prim.Native.Nat.{ℕ, zero, suc, _+_, _-_, _*_, _/_, _%_, _^_, _≤_, _<_}
-use native.Mathlib.Nat.{le-refl, le-trans, le-of-eq, le-of-lt, lt-of-lt-of-le, lt-of-le-of-lt, lt-irrefl, not-le-of-lt, mul-le-mul, mul-le-mul-right, mul-le-mul-left, mul-one, mul-pos, zero-mul, eq-zero-or-pos, mul-assoc, mul-comm, mul-left-comm, mul-right-comm, le-of-mul-le-mul-right, zero-lt-suc}
+use Prim.Native.Nat.{ℕ, _+_, _-_, _*_, _^_, _≤_, _<_}
+use native.Mathlib.Nat.{le-refl, le-trans, le-of-eq, lt-of-lt-of-le, mul-le-mul-right, mul-le-mul-left, mul-one, zero-mul, mul-assoc, mul-comm, mul-right-comm, le-of-mul-le-mul-right}
 use native.Mathlib.Omega.{arith}
-use mathlib.Core.Bool.{Bool, true, false, not, _&&_, _||_, cond, true≢false}
-use lib.Dec.{T, ltb, leb, eqb, lit<, lit≤, ltb→lt, nltb→le}
-use lib.IntN.{pos, negsuc}
+use mathlib.Core.Bool.{Bool, true, false, not, cond, true≢false}
+use lib.Dec.{T, leb, lit<, lit≤, nltb→le, leb→le}
+use lib.IntN.{pos}
 use lib.Pow.{pow-pos}
-use lib.Ieee.{Float, nan, inf, fin, Format, binary32, prec, low, size, round, add, sub, mul, div, neg, lt, up, down, sum}
-use lib.Ieee.Fits.{up-pos, down-pos, two, two-le-pos}
+use lib.Ieee.{Float, nan, inf, fin, binary32, low, size, fits, add, sub, div, neg, lt, up, down}
+use lib.Ieee.Fits.{down-pos}
 use lib.Ieee.Exact.{HasValue}
-use lib.Ieee.Order.{drop, kept}
-use lib.Ieee.Scale.{grid, overflow, round-val}
-use Rattle.bands.specs.Bands.{one, multOf}
-use Rattle.bands.proofs.Units.{Units, grid-mono, grid-near, mul-units, add-units, sub-units, div-units}
+use lib.Ieee.Scale.{finite}
+use lib.Ieee.Positive.{num, den, positive, positive-of-value, value→cross}
+use Rattle.bands.specs.Bands.{nought, one, multOf}
+use Rattle.bands.proofs.Units.{Units, add-units, sub-units, div-units}
+use Rattle.bands.proofs.WholeUnits.{whole-number}
 use Rattle.bands.proofs.Ranged.{Banded, round-banded}
 
 -- ---- the factor
@@ -47,12 +47,21 @@ over-one y g u l h =
     (inv-lo g (2 ^ 149) h)
     (lit< tt))
 
--- x is no NaN, and is at most 65504 either way: it is g units, with the sign s
-pub record Mild (x : Float) : Type 0 where
-  pub sign : Bool
-  pub g : ℕ
-  pub value : HasValue x sign g (2 ^ 149)
-  pub most : g ≤ 65504 * 2 ^ 149
+-- x is no NaN, and is at most 65504 either way
+abbrev pub mild : Float → Bool
+mild nan = false
+mild (inf s) = false
+mild (fin s m e) = leb (m * up e) (65504 * down e)
+
+mild-finite : (x : Float) → T (mild x) → T (finite x)
+mild-finite nan t = absurd t
+mild-finite (inf s) t = absurd t
+mild-finite (fin s m e) t = tt
+
+mild-most : (x : Float) (s : Bool) (g : ℕ) → T (mild x) → HasValue x s g (2 ^ 149) → g ≤ 65504 * 2 ^ 149
+mild-most nan s g t h = absurd t
+mild-most (inf u) s g t h = absurd t
+mild-most (fin u m e) s g t h = le-of-mul-le-mul-right {k = down e} (le-trans (le-of-eq (sym (h .1))) (le-trans (mul-le-mul-right (2 ^ 149) (leb→le (m * up e) (65504 * down e) t)) (le-of-eq (mul-right-comm 65504 (down e) (2 ^ 149))))) (down-pos e)
 
 -- 1 - x, for x at or below zero, is 1 + |x|
 minus-is : (x : Float) (g : ℕ) → HasValue x true g (2 ^ 149) → (y : Float) × (sub binary32 one x ≡ add binary32 one y) × Units binary32 y g
@@ -106,6 +115,27 @@ mult-at x false g v h false e =
     let v0 = subst (Units binary32 x) (is-zero x g v e) v in
     lower x 0 Prim.Native.Nat.zero-le v0 (sub binary32 one x) (minus-zero x v0)
 
-pub mult-banded : (x : Float) → Mild x → Banded (2 ^ 133) (2 ^ 165) (multOf x)
+pub mult-banded : (x : Float) → T (fits binary32 x) → T (mild x) → Banded (2 ^ 133) (2 ^ 165) (multOf x)
 unfolding multOf
-mult-banded x m = mult-at x (m .sign) (m .g) (m .value) (m .most) (lt (fin false 0 (pos 0)) x) refl
+mult-banded x f m = let w = whole-number x f (mild-finite x m) in mult-at x (w .sign) (w .g) (w .value) (mild-most x (w .sign) (w .g) m (w .value)) (lt nought x) refl
+
+-- so mult(x) is above zero, and within a factor of 2 ^ 20 of 1
+pub record Moderate (m : Float) : Type 0 where
+  pub above : T (positive m)
+  pub low : den m ≤ num m * 2 ^ 20
+  pub high : num m ≤ den m * 2 ^ 20
+
+pub moderate : (m : Float) → Banded (2 ^ 133) (2 ^ 165) m → Moderate m
+moderate m b =
+    let e : num m * 2 ^ 149 ≡ b .at * den m = value→cross m (b .at) (2 ^ 149) (b .value) in
+    record {
+      above = positive-of-value m (b .at) (2 ^ 149) (b .value) (lt-of-lt-of-le (pow-pos 133) (b .least));
+      low = lower-side (num m) (den m) (b .at) (2 ^ 133) (pow-pos 133) e (b .least);
+      high = upper-side (num m) (den m) (b .at) (2 ^ 149) (pow-pos 149) e (b .most);
+    }
+  where
+    lower-side : (n d a L : ℕ) → 0 < L → n * (65536 * L) ≡ a * d → L ≤ a → d ≤ n * 2 ^ 20
+    lower-side n d a L P e h = le-trans (le-of-mul-le-mul-right {m = d} {n = n * 65536} {k = L} (le-trans (le-of-eq (mul-comm d L)) (le-trans (mul-le-mul-right d h) (le-of-eq (sym e ∙ sym (mul-assoc n 65536 L))))) P) (mul-le-mul-left n (lit≤ tt))
+
+    upper-side : (n d a L : ℕ) → 0 < L → n * L ≡ a * d → a ≤ 65536 * L → n ≤ d * 2 ^ 20
+    upper-side n d a L P e h = le-trans (le-of-mul-le-mul-right {m = n} {n = d * 65536} {k = L} (le-trans (le-of-eq e) (le-trans (mul-le-mul-right d h) (le-of-eq (mul-right-comm 65536 L d ∙ ap (λ (z : ℕ). z * L) (mul-comm 65536 d))))) P) (mul-le-mul-left d (lit≤ tt))

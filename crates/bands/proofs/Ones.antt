@@ -1,21 +1,19 @@
 -- P(1, f) = 1 and P(q, 0) = 1. Assumes nothing.
-use mathlib.Core.Path.{_≡_, refl, sym, ap, ap₂, _∙_, subst}
-use mathlib.Core.Bool.{Bool, true, false, not, cond}
+use mathlib.Core.Path.{_≡_, refl, ap, ap₂, _∙_, subst}
+use mathlib.Core.Bool.{false, cond}
 use Prim.Native.Nat.{ℕ, zero, suc, _+_, _-_, _*_, _/_, _%_, _^_, _≤_, _<_}
-use native.Mathlib.Nat.{mul-div-cancel, zero-div, le-refl, mul-zero}
+use native.Mathlib.Nat.{mul-div-cancel, zero-div, mul-zero}
 use native.Mathlib.Omega.{arith}
 use lib.Dec.{T, eqb, lit<, lit≤}
 use lib.IntN.{pos}
 use lib.Pow.{pow-pos}
-use lib.Ieee.{Float, fin, binary32, round, fits, toBits, ofBits}
+use lib.Ieee.{Float, fin, binary32, round, toBits, ofBits}
 use Rattle.bands.specs.Root.{IsRoot}
+use Rattle.bands.specs.Bands.{one}
 use Rattle.bands.proofs.Roots.{root-unique}
-use Rattle.bands.specs.Power.{chain, products, field, scaled, normal, turns, mantissa, powerOf, P}
+use Rattle.bands.specs.Power.{chain, products, field, scaled, normal, turns, powerOf, P}
 use Rattle.bands.proofs.Chains.{chain-root, by-digit}
 use Rattle.bands.proofs.Accuracy.{chosen}
-
-abbrev pub one : Float
-one = fin false 1 (pos 0)
 
 -- the chain from 2 ^ 31 stays there, and its products change nothing
 chain-one : (j : ℕ) → chain (2 ^ 31) j ≡ 2 ^ 31

@@ -1,14 +1,12 @@
 -- An f32 that is zero, or from lo to hi: what a chain of rounded steps keeps. lo and hi are in units, 2 ^ -149. Assumes nothing.
-use mathlib.Core.Path.{_≡_, refl, sym, ap, _∙_, subst}
+use mathlib.Core.Path.{_≡_, sym, ap, _∙_, subst}
 use mathlib.Core.Logic.{_⊎_, inl, inr}
-use Prim.Native.Nat.{ℕ, zero, suc, _+_, _-_, _*_, _/_, _%_, _^_, _≤_, _<_}
-use native.Mathlib.Nat.{le-trans, le-of-eq, le-of-lt, lt-of-lt-of-le, lt-of-le-of-lt, mul-le-mul-right, mul-lt-mul-of-pos-right, mul-one, mul-pos, zero-mul}
-use native.Mathlib.Omega.{arith}
-use mathlib.Core.Bool.{Bool, true, false}
-use lib.Dec.{T, ltb, leb, lit<, lit≤}
+use Prim.Native.Nat.{ℕ, _-_, _*_, _^_, _≤_, _<_}
+use native.Mathlib.Nat.{lt-of-le-of-lt, mul-le-mul-right, mul-one, zero-mul}
+use mathlib.Core.Bool.{false}
+use lib.Dec.{lit<, lit≤}
 use lib.IntN.{pos}
-use lib.Pow.{pow-pos}
-use lib.Ieee.{Float, Format, binary32, size, round, ofInt}
+use lib.Ieee.{Float, binary32, round, ofInt}
 use lib.Ieee.Scale.{grid, overflow, round-val}
 use Rattle.bands.proofs.Units.{Units, grid-mono, grid-exact}
 

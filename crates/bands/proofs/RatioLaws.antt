@@ -1,23 +1,20 @@
 -- The laws of `ratioOf`. Assumes nothing.
 use mathlib.Core.Path.{_≡_, refl, sym, ap, _∙_, subst}
 use mathlib.Core.Logic.{_⊎_, inl, inr}
-use mathlib.Core.Bool.{Bool, true, false, not, cond, _&&_, true≢false, false≢true}
+use mathlib.Core.Bool.{Bool, true, false, not, cond}
 use mathlib.Core.List.{List}
-use Prim.Native.Nat.{ℕ, zero, suc, _+_, _-_, _*_, _%_, _^_, _≤_, _<_}
-use native.Mathlib.Nat.{le-trans, le-of-eq, lt-irrefl, lt-of-lt-of-le, lt-of-le-of-lt, eq-or-lt-of-le, not-suc-le-zero}
+use Prim.Native.Nat.{ℕ, _+_, _-_, _*_, _%_, _^_, _≤_, _<_}
+use native.Mathlib.Nat.{le-trans, le-of-eq, lt-irrefl, lt-of-lt-of-le, lt-of-le-of-lt, not-suc-le-zero}
 use native.Mathlib.Omega.{arith}
-use lib.Dec.{T, eqb, eqb→eq, not-T, lit≤}
-use lib.Ieee.Bits.{is-true, is-false}
-use lib.Ieee.Fits.{eq→eqb}
+use lib.Dec.{T, lit≤}
 use lib.ListN.{length, getD, set, length-set}
 use lib.Seq.{getD-set-same, getD-set-other}
 use lib.Ieee.{Float, nan, binary32, div, toBits}
 use Rattle.bands.specs.declared.own_power.Ratio.{Ratio}
 use Rattle.bands.specs.Power.{field, scaled, normal, powerOf, P}
-use Rattle.bands.specs.Views.{chainFrom, IsChain}
-use Rattle.bands.specs.Views.{none, absent, ratioOf, AllRatios}
+use Rattle.bands.specs.Views.{chainFrom, IsChain, none, absent, ratioOf, AllRatios}
 use Rattle.bands.proofs.Fields.{normal-is}
-use Rattle.bands.proofs.ChainLists.{isChain, first-of}
+use Rattle.bands.proofs.ChainLists.{isChain, first-of, split-lt}
 use Rattle.bands.proofs.Accuracy.{chosen}
 
 pub ratio-some : (q : Float) → T (normal q) → ratioOf q ≡ record { e = field q; roots = chainFrom (scaled q) 33 }
@@ -104,9 +101,6 @@ pub record Ratioed (bands : List Float) (r : List Ratio) (i : ℕ) : Type 0 wher
   pub most : i ≤ 15
   pub long : length r ≡ 15
   pub done : (k : ℕ) → k < i → getD r k absent ≡ ratioOf (div binary32 (getD bands (k + 1) nan) (getD bands k nan))
-
-split-lt : (i j : ℕ) → i < j + 1 → (i ≡ j) ⊎ (i < j)
-split-lt i j h = eq-or-lt-of-le (omega arith)
 
 pub ratioed-none : (bands : List Float) (r : List Ratio) → length r ≡ 15 → Ratioed bands r 0
 ratioed-none bands r h = record { most = Prim.Native.Nat.zero-le; long = h; done = λ k b. absurd (not-suc-le-zero b) }

@@ -1,11 +1,11 @@
 -- The laws of the whole root, and of its digits one by one. Assumes nothing.
-use mathlib.Core.Path.{_≡_, refl, sym, ap, ap₂, _∙_, subst}
+use mathlib.Core.Path.{_≡_, refl, sym, ap, _∙_, subst}
 use mathlib.Core.Bool.{Bool, true, false, not, cond}
 use Prim.Native.Nat.{ℕ, zero, suc, _+_, _-_, _*_, _/_, _%_, _^_, _≤_, _<_, zero-le}
-use native.Mathlib.Nat.{le-trans, le-of-eq, le-antisymm, le-of-suc-le-suc, lt-of-le-of-lt, lt-of-lt-of-le, not-le-of-lt, lt-of-not-le, mul-le-mul, mul-comm, mul-assoc, mul-left-comm, mul-add, add-mul, mul-one, one-mul, pow-suc, pow-zero, div-lt-iff-lt-mul, lt-irrefl, div-eq-of-lt, div-one, sub-add-cancel, div-div-eq-div-mul}
+use native.Mathlib.Nat.{le-trans, le-of-eq, le-antisymm, le-of-suc-le-suc, lt-of-lt-of-le, not-le-of-lt, lt-of-not-le, mul-le-mul, mul-comm, mul-assoc, mul-left-comm, mul-add, add-mul, pow-suc, lt-irrefl, div-eq-of-lt, div-one, sub-add-cancel, div-div-eq-div-mul}
 use native.Mathlib.Omega.{arith}
 use lib.Dec.{T, leb, leb→le, nleb→lt, lit≤, lit<}
-use lib.Pow.{pow-mono, pow-add, shr-le}
+use lib.Pow.{pow-add, shr-le}
 use lib.Ieee.{size}
 use lib.Ieee.Digits.{size-lt}
 use Rattle.bands.specs.Root.{rootIn, wholeRoot, IsRoot}

@@ -1,13 +1,13 @@
 -- The bands of a list, step by step: how many are sound, and the array of them. Assumes nothing.
 use mathlib.Core.Path.{_≡_, refl, sym, ap, _∙_, subst}
 use mathlib.Core.Logic.{⊎-elim}
-use mathlib.Core.Bool.{Bool, true, false, cond, not, _&&_, _||_}
+use mathlib.Core.Bool.{Bool, true, false, cond, not, _&&_, _||_, false≢true}
 use mathlib.Core.List.{List}
 use Prim.Native.Nat.{ℕ, zero, suc, _+_, _-_, _≤_, _<_}
-use native.Mathlib.Nat.{le-of-suc-le-suc, not-suc-le-zero, eq-or-lt-of-le, le-refl, lt-of-lt-of-le}
+use native.Mathlib.Nat.{le-of-suc-le-suc, not-suc-le-zero, eq-or-lt-of-le, le-refl, le-trans, lt-of-lt-of-le}
 use native.Mathlib.Numerals.{add-one}
 use native.Mathlib.Omega.{arith}
-use borrow.Author.Tests.{eq-eqb, ne-eqb}
+use borrow.Author.Tests.{eq-eqb, ne-eqb, eqb-true}
 use lib.Dec.{eqb}
 use lib.ListN.{length, getD, set, length-set}
 use lib.Seq.{getD-set-same, getD-set-other}
@@ -70,7 +70,7 @@ module _ (ps : ℕ → Float) where
   sound-ends i zero e h = absurd (not-suc-le-zero h)
   sound-ends i (suc m) e h = ⊎-elim (λ z. subst (λ (k : ℕ). sound ps (suc k) ≡ i) z e) (λ l. sound-stays i m l (sound-ends i m e l)) (eq-or-lt-of-le (le-of-suc-le-suc h))
 
-  opened : (i : ℕ) → mul binary32 (bandAt ps i) (multOf (ps (suc i))) ≡ bandAt ps (suc i)
+  pub opened : (i : ℕ) → mul binary32 (bandAt ps i) (multOf (ps (suc i))) ≡ bandAt ps (suc i)
   unfolding bandAt
   opened i = refl
 
@@ -78,7 +78,7 @@ module _ (ps : ℕ → Float) where
   unfolding sound
   sound-zero = refl
 
-  first-band : bandAt ps 0 ≡ ps 0
+  pub first-band : bandAt ps 0 ≡ ps 0
   unfolding bandAt
   first-band = refl
 
@@ -152,3 +152,33 @@ module _ (ps : ℕ → Float) where
 
   pub filling-all : (n i : ℕ) (last : Float) (l : List Float) → n ≤ i → Filling ps n i last l → Banding ps n l
   filling-all n i last l h s = record { each = λ j g. s .each j (lt-of-lt-of-le g h) }
+
+  -- ---- where all are sound, none after the first is refused
+  sound-le : (n : ℕ) → sound ps n ≤ n
+  unfolding sound
+  sound-le zero = le-refl 0
+  sound-le (suc n) = go (eqb (sound ps n) n && (eqb n 0 || not (barred (bandAt ps n)))) (sound-le n)
+    where
+      go : (b : Bool) → sound ps n ≤ n → cond b (suc n) (sound ps n) ≤ suc n
+      go true h = le-refl (suc n)
+      go false h = le-trans h (native.Mathlib.Nat.le-suc n)
+
+  before : (n : ℕ) → sound ps (suc n) ≡ suc n → (sound ps n ≡ n) × ((eqb n 0 || not (barred (bandAt ps n))) ≡ true)
+  unfolding sound
+  before n e = go (eqb (sound ps n) n) (eqb n 0 || not (barred (bandAt ps n))) refl refl e
+    where
+      over : sound ps n ≡ suc n → ⊥
+      over q = let h : sound ps n ≤ n = sound-le n in omega arith
+
+      go : (a b : Bool) → eqb (sound ps n) n ≡ a → (eqb n 0 || not (barred (bandAt ps n))) ≡ b → cond (a && b) (suc n) (sound ps n) ≡ suc n → (sound ps n ≡ n) × (b ≡ true)
+      go true true f g q = (eqb-true (sound ps n) n f, refl)
+      go true false f g q = absurd (over q)
+      go false b f g q = absurd (over q)
+
+  pub all-sound : (n j : ℕ) → sound ps n ≡ n → 1 ≤ j → j < n → barred (bandAt ps j) ≡ false
+  all-sound zero j e h l = absurd (not-suc-le-zero l)
+  all-sound (suc n) j e h l = ⊎-elim (λ q. subst (λ (k : ℕ). barred (bandAt ps k) ≡ false) (sym q) (last (eqb n 0) (barred (bandAt ps n)) (ne-eqb n 0 (λ z. omega arith)) (before n e .1))) (λ q. all-sound n j (before n e .0) h q) (eq-or-lt-of-le (le-of-suc-le-suc l))
+    where
+      last : (a b : Bool) → a ≡ false → (a || not b) ≡ true → b ≡ false
+      last a true f g = absurd (false≢true (sym (ap (λ (t : Bool). t || false) f) ∙ g))
+      last a false f g = refl

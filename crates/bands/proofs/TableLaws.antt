@@ -2,12 +2,12 @@
 -- and what stands where at the end. Assumes nothing.
 use mathlib.Core.Path.{_≡_, refl, sym, ap, _∙_, subst}
 use mathlib.Core.Logic.{⊎-elim}
-use mathlib.Core.List.{List, [], _∷_, _++_, map, append-nil}
+use mathlib.Core.List.{[], List, _∷_, _++_, map, append-nil}
 use Prim.Native.Nat.{ℕ, zero, suc, _+_, _-_, _≤_, _<_}
 use native.Mathlib.Nat.{add-zero, zero-add, add-suc, suc-add, le-of-eq, le-of-suc-le-suc, not-suc-le-zero, eq-or-lt-of-le, lt-of-lt-of-le}
 use native.Mathlib.Numerals.{add-one}
 use native.Mathlib.Omega.{arith}
-use lib.ListN.{length, getD, take, drop, set, replicate, length-append, length-take, length-map, length-replicate, getD-replicate, List·getD-map, List·getD-append, drop-of-length-le}
+use lib.ListN.{length, getD, take, drop, set, replicate, length-append, length-map, length-replicate, getD-replicate, List·getD-map, List·getD-append, drop-of-length-le}
 use lib.Seq.{sets, sets-eq, ext-getD, getD-append-add, getD-take, getD-drop, length-take-le, getD-append-seam}
 use Rattle.bands.specs.Table.{tab}
 

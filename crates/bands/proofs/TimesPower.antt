@@ -1,45 +1,18 @@
 -- A float times 2 ^ k, where nothing overflows, is exact. Assumes nothing.
-use mathlib.Core.Path.{_≡_, refl, sym, ap, _∙_, subst}
-use Prim.Native.Nat.{ℕ, zero, suc, _+_, _-_, _*_, _/_, _%_, _^_, _≤_, _<_}
-use native.Mathlib.Nat.{le-trans, le-of-eq, le-of-lt, lt-of-lt-of-le, lt-of-le-of-lt, mul-one, one-mul, mul-assoc, mul-comm, mul-left-comm, mul-right-comm, mul-pos, eq-of-mul-eq-mul-right, le-of-suc-le-suc, lt-of-not-le, not-le-of-lt, lt-of-mul-lt-mul-right, mul-lt-mul-of-pos-right, zero-mul}
-use native.Mathlib.Omega.{arith}
-use mathlib.Core.Bool.{Bool, true, false, _&&_, true≢false}
-use lib.Dec.{T, eqb, ltb, leb, ltb→lt, leb→le, eqb→eq, lit<, lit≤}
-use lib.IntN.{ℤ, pos, negsuc}
-use lib.Pow.{pow-pos, pow-add, pow-lt}
+use mathlib.Core.Path.{_≡_, sym, ap, _∙_, subst}
+use Prim.Native.Nat.{ℕ, _-_, _*_, _^_, _<_}
+use native.Mathlib.Nat.{le-of-eq, le-of-lt, lt-of-lt-of-le, lt-of-le-of-lt, mul-one, one-mul, mul-assoc, mul-right-comm, mul-pos, eq-of-mul-eq-mul-right, lt-of-mul-lt-mul-right, mul-lt-mul-of-pos-right}
+use mathlib.Core.Bool.{true, false, true≢false}
+use lib.Dec.{T, lit<}
+use lib.IntN.{pos}
+use lib.Pow.{pow-pos}
 use lib.Ieee.{Float, nan, inf, fin, binary32, up, down, fits, mul, round}
-use lib.Ieee.Digits.{back}
-use lib.Ieee.Fits.{up-pos, down-pos, and-l, and-r}
+use lib.Ieee.Fits.{down-pos}
 use lib.Ieee.Exact.{HasValue}
 use lib.Ieee.Scale.{grid, overflow, round-val}
-use Rattle.bands.proofs.Units.{exp-le, Units, grid-exact}
+use Rattle.bands.proofs.Units.{Units, grid-exact}
+use Rattle.bands.proofs.WholeUnits.{short, place}
 use Rattle.bands.proofs.Position.{rescale}
-
--- what `fits` says of the significand and of the exponent
-short : (s : Bool) (m : ℕ) (e : ℤ) → T (fits binary32 (fin s m e)) → (m < 2 ^ 24) × (down e ≤ 2 ^ 149)
-unfolding fits
-short s zero e t = (lit< tt, le-trans (one (up e) (down e) (up-pos e) (eqb→eq (up e * down e) 1 t)) (lit≤ tt))
-  where
-    one : (a b : ℕ) → 0 < a → a * b ≡ 1 → b ≤ 1
-    one a b A h = le-trans (le-trans (le-of-eq (sym (one-mul b))) (native.Mathlib.Nat.mul-le-mul-right b A)) (le-of-eq h)
-short s (suc m) e t =
-    let a = eqb (suc m % 2) 1 in
-    let b = ltb (suc m) (2 ^ 24) in
-    let c = leb (down e) (2 ^ 149) in
-    let d = ltb (suc m * up e) (2 ^ 128 * down e) in
-    let u = and-l (a && b && c) d t in
-    (ltb→lt (suc m) (2 ^ 24) (and-r a b (and-l (a && b) c u)), leb→le (down e) (2 ^ 149) (and-r (a && b) c u))
-
--- 2 ^ e * 2 ^ (k + 149) is 2 ^ j
-place : (e : ℤ) (k : ℕ) → down e ≤ 2 ^ 149 → (j : ℕ) × (up e * (2 ^ k * 2 ^ 149) ≡ 2 ^ j * down e)
-place (pos i) k h = (i + (k + 149), ap (λ (z : ℕ). 2 ^ i * z) (sym (pow-add 2 k 149)) ∙ sym (pow-add 2 i (k + 149)) ∙ sym (mul-one (2 ^ (i + (k + 149)))))
-place (negsuc i) k h = (
-  k + (149 - suc i),
-  one-mul (2 ^ k * 2 ^ 149)
-      ∙ ap (λ (z : ℕ). 2 ^ k * z) (ap (λ (z : ℕ). 2 ^ z) (sym (back 149 (suc i) (exp-le (suc i) 149 h))) ∙ pow-add 2 (149 - suc i) (suc i))
-      ∙ sym (mul-assoc (2 ^ k) (2 ^ (149 - suc i)) (2 ^ suc i))
-      ∙ ap (λ (z : ℕ). z * 2 ^ suc i) (sym (pow-add 2 k (149 - suc i))),
-)
 
 pub times-power : (x : Float) (k a c : ℕ) → 0 < c → T (fits binary32 x) → HasValue x false a c → a * 2 ^ k < 2 ^ 128 * c → HasValue (mul binary32 x (fin false 1 (pos k))) false (a * 2 ^ k) c
 unfolding mul

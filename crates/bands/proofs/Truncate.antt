@@ -1,17 +1,13 @@
 -- What the calls on the way from a position to its index ask. Assumes nothing.
-use mathlib.Core.Path.{_≡_, refl, sym, ap, _∙_, subst}
-use Prim.Native.Nat.{ℕ, zero, suc, _+_, _*_, _/_, _^_, _≤_, _<_}
-use native.Mathlib.Nat.{le-trans, le-of-eq, lt-of-lt-of-le, lt-of-le-of-lt, mul-lt-mul-of-pos-right, mul-pos, mul-one, lt-of-mul-lt-mul-right, mul-assoc, mul-comm, mul-right-comm}
+use Prim.Native.Nat.{ℕ, _+_, _*_, _^_, _≤_, _<_}
+use native.Mathlib.Nat.{le-of-eq, lt-of-lt-of-le, lt-of-le-of-lt, mul-lt-mul-of-pos-right, mul-one, lt-of-mul-lt-mul-right, mul-right-comm}
 use native.Mathlib.Omega.{arith}
-use mathlib.Core.Bool.{Bool, true, false, not, _&&_, true≢false}
-use mathlib.Core.List.{List}
-use lib.Dec.{T, leb, ltb, eqb, leb→le, ltb→lt, lt→ltb, le→leb}
+use mathlib.Core.Bool.{true, false, true≢false}
+use lib.Dec.{T, lt→ltb, le→leb}
 use lib.IntN.{pos}
-use lib.Pow.{pow-pos}
 use lib.Ieee.{Float, nan, inf, fin, binary32, lt, up, down, inFloat}
 use lib.Ieee.Exact.{HasValue}
-use lib.Ieee.Fits.{and-l, and-r, down-pos}
-use borrow.Author.Tests.{le-ltb, lt-ltb, le-leb, lt-leb, eq-eqb, ne-eqb}
+use lib.Ieee.Fits.{down-pos}
 use Rattle.bands.specs.Position.{indexOf, Cut}
 
 -- ---- what `truncating_f32_to_u64` asks

@@ -7,6 +7,7 @@ use lib.IntN.{pos}
 use lib.ListN.{getD}
 use lib.Ieee.{Float, nan, inf, fin, binary32, add, sub, mul, div, lt, le}
 
+-- 0 and 1
 abbrev pub nought : Float
 nought = fin false 0 (pos 0)
 

@@ -1,6 +1,6 @@
 -- Mode 5's interpolated numbers: FREQS with bands p5 and p6 to p8, as the source. Definitions only.
 use mathlib.Core.Bool.{Bool, false, not, cond, _&&_, _||_}
-use mathlib.Core.List.{List, [], _∷_}
+use mathlib.Core.List.{[], List, _∷_}
 use Prim.Native.Nat.{ℕ}
 use lib.Dec.{ltb, eqb}
 use lib.IntN.{pos}

@@ -24,6 +24,7 @@ field q = toBits binary32 q / 2 ^ 23
 abbrev pub scaled : Float → ℕ
 scaled q = (2 ^ 23 + toBits binary32 q % 2 ^ 23) * 2 ^ 8
 
+-- normal and above zero: the sign is plus and the field is neither 0 nor 255
 abbrev pub normal : Float → Bool
 normal q = leb 1 (field q) && ltb (field q) 255
 

@@ -1,6 +1,6 @@
 -- What `dct_quant_weights` answers and leaves. Definitions only.
-use mathlib.Core.Bool.{Bool, true, false, cond, _&&_, _||_}
-use mathlib.Core.List.{List, [], _∷_}
+use mathlib.Core.Bool.{Bool, false, cond, _&&_, _||_}
+use mathlib.Core.List.{[], List, _∷_}
 use Prim.Native.Nat.{ℕ, zero, suc, _*_, _/_, _%_}
 use lib.Dec.{leb, ltb, eqb}
 use lib.ListN.{length, take, drop, replicate}
@@ -58,6 +58,7 @@ unfolding sound
 bandAnswer ps n zero = Done
 bandAnswer ps n (suc c) = orElse (bandAnswer ps n c) (cond (ltb (soundOf ps n c) n) (Band c (soundOf ps n c)) Done)
 
+-- LENT, then BAND, else DONE
 unfoldable pub dctAnswer : List Float → ℕ → ℕ → ℕ → ℕ → Banded
 unfolding lentRight bandAnswer
 dctAnswer ps n w h places = cond (lentRight (length ps) n w h places) (bandAnswer ps n 3) Lent
@@ -77,6 +78,7 @@ leaves Done ws s = ws
 leaves Lent ws s = s
 leaves (Band c i) ws s = replicate (length s) nought
 
+-- what the call leaves in `out`: with DONE the table, with LENT what it held, with BAND zeros
 unfoldable pub dctLeaves : List Float → ℕ → ℕ → ℕ → List Float → List Float
 unfolding dctAnswer dctTable
 dctLeaves ps n w h out = leaves (dctAnswer ps n w h (length out)) (dctTable ps n w h) out

@@ -1,7 +1,7 @@
 -- What private functions ask of and promise each other. No public contract cites these. Definitions only.
 use mathlib.Core.Path.{_≡_}
 use mathlib.Core.Bool.{Bool, true, false, cond}
-use mathlib.Core.List.{List, [], _∷_}
+use mathlib.Core.List.{[], List, _∷_}
 use Prim.Native.Nat.{ℕ, zero, suc, _+_, _-_, _*_, _/_, _%_, _^_, _≤_, _<_}
 use lib.IntN.{pos}
 use lib.ListN.{length, getD, set, replicate}
@@ -41,7 +41,7 @@ pub record IsChain (l : List ℕ) : Type 0 where
   pub low : 2 ^ 31 ≤ getD l 0 0
   pub high : getD l 0 0 ≤ 2 ^ 32
 
--- what P needs of a q that is not normal or not above zero, and of any q
+-- what P needs of a q: for one that is not normal or not above zero, and for any
 abbrev pub none : Ratio
 none = record { e = 0; roots = replicate 33 0 }
 
@@ -111,7 +111,7 @@ gridOf a b c n w h = tab (3 * (w * h)) (λ p. gridCell a b c n w h (p / (w * h))
 pub record Banding (ps : ℕ → Float) (n : ℕ) (l : List Float) : Type 0 where
   pub each : (i : ℕ) → i < n → getD l i nan ≡ bandAt ps i
 
--- ---- answers
+-- ---- answers: DONE or not
 abbrev pub isDone : Banded → Bool
 isDone Done = true
 isDone Lent = false

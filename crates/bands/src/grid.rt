@@ -25,8 +25,8 @@ fn steps(f: f32) -> u32
     std::num::truncating_f32_to_u64(f * 4294967296.0) as u32
 }
 
-// a * P(b / a, f).
-fn weigh(s: Segment, r: Ratio) -> f32
+// The weight in a segment: a * P(b / a, f). r is what P needs of b / a.
+fn interpolate(s: Segment, r: Ratio) -> f32
     requires { ⌜ Stepped (s .fraction) ⌝ }
     requires { ⌜ r ≡ ratioOf (div binary32 (s .b) (s .a)) ⌝ }
     ensures { λ w. ⌜ w ≡ segmentWeight (s .a) (s .b) (s .fraction) ⌝ }
@@ -50,7 +50,7 @@ pub(crate) fn weigh_at(bands: &[f32; 16], r: Ratio, count: u16, p: f32) -> f32
     requires { ⌜ r ≡ ratioOf (div binary32 (atOf (now bands) (indexOf p + 1)) (atOf (now bands) (indexOf p))) ⌝ }
     ensures { λ w. ⌜ w ≡ between (atOf (now (bands .entry))) p ⌝ }
 {
-    weigh(cut_at(bands, count, p), r)
+    interpolate(cut_at(bands, count, p), r)
 }
 
 // The position of place q of a grid.

@@ -15,11 +15,11 @@ use Rattle.params.proofs.Written.{Field, bits, numbersOf, Fine, rowOf, 
 use Rattle.params.specs.Allowed.{allFine, allZero, countOk, partsOk, entryRow}
 use Rattle.params.proofs.RowLaws.{shape-fits}
 
-and-true : (a b : Bool) → a && b ≡ true → (a ≡ true) × (b ≡ true)
+pub and-true : (a b : Bool) → a && b ≡ true → (a ≡ true) × (b ≡ true)
 and-true true b e = (refl, e)
 and-true false b e = let z : _≡_ {A = ℕ} 0 1 = cc in absurd (omega arith)
 
-and-both : (a b : Bool) → a ≡ true → b ≡ true → a && b ≡ true
+pub and-both : (a b : Bool) → a ≡ true → b ≡ true → a && b ≡ true
 and-both a b e f = rw (e, f)
 
 pub and-go : (a b : Bool) → a ≡ true → a && b ≡ b
@@ -48,13 +48,13 @@ fine-right : (a x : List ℕ) → Fine (a ++ x) → Fine x
 fine-right [] x f = f
 fine-right (v ∷ a) x f = fine-right a x (f .1)
 
-zeros-of : (vs : List ℕ) → allZero vs ≡ true → vs ≡ replicate (length vs) 0
+pub zeros-of : (vs : List ℕ) → allZero vs ≡ true → vs ≡ replicate (length vs) 0
 zeros-of [] e = refl
 zeros-of (v ∷ vs) e =
     let h = and-true (eqb v 0) (allZero vs) e in
     ap (λ (x : ℕ). x ∷ vs) (eqb-true v 0 (h .0)) ∙ ap (λ (x : List ℕ). 0 ∷ x) (zeros-of vs (h .1))
 
-of-zeros : (n : ℕ) → allZero (replicate n 0) ≡ true
+pub of-zeros : (n : ℕ) → allZero (replicate n 0) ≡ true
 of-zeros zero = refl
 of-zeros (suc n) = of-zeros n
 
@@ -217,6 +217,10 @@ module _ (l : List ℕ) (i : ℕ) (h : i < length l) where
   zero-go e = sym (zero-next ∙ ap (λ (t : Bool). t && allZero (drop (i + 1) l)) e)
 
 -- ---- `entryRow` by the length
+pub ok-long : (kind : ℕ) (row : List ℕ) → entryRow kind row ≡ true → length row ≡ 128
+unfolding entryRow
+ok-long kind row e = eqb-true (length row) 128 (and-true (eqb (length row) 128) _ e .0)
+
 pub row-no : (kind : ℕ) (row : List ℕ) → (length row ≡ 128 → ⊥) → false ≡ entryRow kind row
 unfolding entryRow
 row-no kind row h = sym (and-no _ _ (ne-eqb (length row) 128 h))

@@ -1,7 +1,11 @@
 // Rows: reading a header into them, and the ROW check.
+mod hand;
 mod read;
 mod rows;
 
+pub use hand::parse;
+pub use hand::parse_at;
+pub use hand::parse_from;
 pub use read::Reading;
 pub use read::read_header;
 pub use rows::RowCheck;

@@ -1,9 +1,9 @@
 -- `freq::corner_between`. Assumes nothing.
-use mathlib.Core.Path.{_≡_, refl, sym, ap, _∙_, subst}
+use mathlib.Core.Path.{sym, ap, _∙_, subst}
 use Prim.Native.Nat.{ℕ, _+_, _<_}
 use lib.Dec.{lit≤}
 use lib.ListN.{getD}
-use lib.Ieee.{Float, nan, binary32, mul, div, ofBits}
+use lib.Ieee.{nan, binary32, div}
 use Rattle.bands.specs.Bands.{atOf, bandAt}
 use Rattle.bands.specs.Position.{Cut}
 use Rattle.bands.specs.Views.{ratioOf}
@@ -12,51 +12,34 @@ use Rattle.bands.proofs.Agree.{between-at}
 use borrow.Author.Needs.{needs}
 use Rattle.bands.proofs.freq.corner_between.Statement.{statement}
 use Rattle.bands.proofs.freq.corner_between.Tie as tie
-use Rattle.bands.proofs.freq.corner_between.Reads as reads
-use Rattle.bands.proofs.freq.corner_between.Lts as lts
-use Rattle.bands.proofs.freq.freq_position.Reads as freq-position-reads
-use Rattle.bands.proofs.list.bands_of.Reads as bands-of-reads
-use Rattle.bands.proofs.grid.index.Reads as index-reads
-use Rattle.bands.proofs.grid.weigh_at.Reads as weigh-at-reads
-use Rattle.bands.proofs.own_power.ratio_of.Reads as ratio-of-reads
 
--- src/corner.rt:45:17
 bands-of-requires : tie.Need-bands-of-requires
 bands-of-requires c κs = search needs
 
--- src/corner.rt:46:9
 freq-position-requires : tie.Need-freq-position-requires
 freq-position-requires c κs = search needs
 
--- src/corner.rt:47:9
 index-requires : tie.Need-index-requires
 index-requires c κs = (lit≤ tt, subst (Cut 4) (sym (c .freq-position .ensures)) (c .before .before .before .pre .2))
 
--- src/corner.rt:48:35
 add-ratio-of : tie.Need-add-ratio-of
 add-ratio-of c = search needs
 
--- src/corner.rt:48:29
 mul-ratio-of : tie.Need-mul-ratio-of
 mul-ratio-of c = search needs
 
--- src/corner.rt:48:29
 array-read-ratio-of : tie.Need-array-read-ratio-of
 array-read-ratio-of c = search needs
 
--- src/corner.rt:48:44
 mul-ratio-of-2 : tie.Need-mul-ratio-of-2
 mul-ratio-of-2 c = search needs
 
--- src/corner.rt:48:44
 array-read-ratio-of-2 : tie.Need-array-read-ratio-of-2
 array-read-ratio-of-2 c = search needs
 
--- src/corner.rt:48:9
 ratio-of-requires : tie.Need-ratio-of-requires
 ratio-of-requires c κs = search needs
 
--- src/corner.rt:49:5
 weigh-at-requires : tie.Need-weigh-at-requires
 weigh-at-requires c κs =
     let b = c .before .before .before .before .bands-of .result in (
@@ -64,7 +47,6 @@ weigh-at-requires c κs =
       c .before .ratio-of .ensures ∙ ap (λ (i : ℕ). ratioOf (div binary32 (getD b (i + 1) nan) (getD b i nan))) (c .before .before .index .ensures .0),
     )
 
--- src/corner.rt:41:1
 returns : tie.Need-returns
 returns c =
     let a = c .before .before .before .before .before .before .before .args in

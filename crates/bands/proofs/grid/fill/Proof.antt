@@ -5,34 +5,24 @@ use Rattle.bands.specs.Views.{gridOf}
 use borrow.Author.Needs.{needs}
 use Rattle.bands.proofs.grid.fill.Statement.{statement}
 use Rattle.bands.proofs.grid.fill.Tie as tie
-use Rattle.bands.proofs.grid.fill.Reads as reads
-use Rattle.bands.proofs.grid.fill.Lts as lts
-use Rattle.bands.proofs.grid.fill_many.Reads as fill-many-reads
-use Rattle.bands.proofs.grid.fill_one.Reads as fill-one-reads
 
--- src/grid.rt:111:9
 fill-one-requires : tie.Need-fill-one-requires
 fill-one-requires c κs = search needs
 
--- src/grid.rt:113:9
 fill-many-requires : tie.Need-fill-many-requires
 fill-many-requires c κs = search needs
 
--- src/grid.rt:106:1
 same-length : tie.Need-same-length
 same-length c = search needs
 
--- src/grid.rt:106:1
 returns : tie.Need-returns
 returns c =
     let a = c .before .before .before .before .before .before .args in
     subst (λ (n : ℕ). c .before .before .fill-one .last .0 ≡ gridOf (a .b0 .now) (a .b1 .now) (a .b2 .now) n (a .w) (a .h)) (sym (c .before .before .before .before .if1 .taken)) (c .before .before .fill-one .ensures)
 
--- src/grid.rt:106:1
 same-length-2 : tie.Need-same-length-2
 same-length-2 c = search needs
 
--- src/grid.rt:106:1
 returns-2 : tie.Need-returns-2
 returns-2 c = search needs
 

@@ -1,24 +1,15 @@
 use native.Mathlib.Nat.{lt-of-le-of-lt}
 use lib.Dec.{lit<}
-use lib.Ieee.{Float}
 -- `grid::fill_many`: place by place (`Laid`). Assumes nothing.
-use mathlib.Core.Path.{_≡_, refl, sym, ap, _∙_, subst}
-use Prim.Native.Nat.{ℕ, _+_, _-_, _*_, _≤_, _<_}
+use Prim.Native.Nat.{_-_, _*_, _≤_, _<_}
 use native.Mathlib.Omega.{arith}
 use borrow.Author.Needs.{needs}
 use Rattle.bands.specs.Bands.{atOf}
 use Rattle.bands.specs.Views.{gridCell, gridOf}
 use Rattle.bands.proofs.Laid.{Laid, laid-none, laid-on, laid-all}
-use Rattle.bands.proofs.Cells.{cell-many, cell-one, ratio-here, area-le, area-pos}
+use Rattle.bands.proofs.Cells.{cell-many, ratio-here, area-le, area-pos}
 use Rattle.bands.proofs.grid.fill_many.Statement.{statement}
 use Rattle.bands.proofs.grid.fill_many.Tie as tie
-use Rattle.bands.proofs.grid.fill_many.Reads as reads
-use Rattle.bands.proofs.grid.fill_many.Lts as lts
-use Rattle.bands.proofs.grid.index.Reads as index-reads
-use Rattle.bands.proofs.grid.place.Reads as place-reads
-use Rattle.bands.proofs.grid.put.Reads as put-reads
-use Rattle.bands.proofs.grid.weigh_at.Reads as weigh-at-reads
-use Rattle.bands.proofs.own_power.ratios.Reads as ratios-reads
 
 abbrev Inv-loop : tie.InvT-loop
 Inv-loop out₀ b0 b1 b2 count w h r0 r1 r2 area q₀ out q = (q ≤ w * h) × Laid (gridCell b0 b1 b2 count w h) (w * h) q out
@@ -26,43 +17,33 @@ Inv-loop out₀ b0 b1 b2 count w h r0 r1 r2 area q₀ out q = (q ≤ w * h) × L
 abbrev μ-loop : tie.MeasureT-loop
 μ-loop out₀ b0 b1 b2 count w h r0 r1 r2 area q₀ out q = w * h - q
 
--- src/grid.rt:76:14
 ratios-requires : tie.Need-ratios-requires Inv-loop μ-loop
 ratios-requires c κs = search needs
 
--- src/grid.rt:77:14
 ratios-requires-2 : tie.Need-ratios-requires-2 Inv-loop μ-loop
 ratios-requires-2 c κs = search needs
 
--- src/grid.rt:78:14
 ratios-requires-3 : tie.Need-ratios-requires-3 Inv-loop μ-loop
 ratios-requires-3 c κs = search needs
 
--- src/grid.rt:79:16
 mul-area : tie.Need-mul-area Inv-loop μ-loop
 mul-area c = record { fits = lt-of-le-of-lt (area-le (c .before .before .before .before .args .w) (c .before .before .before .before .args .h) (c .before .before .before .before .pre .0 .not-wider) (c .before .before .before .before .pre .0 .not-higher)) (lit< tt) }
 
--- src/grid.rt:81:5
 loop-holds : tie.Need-loop-holds Inv-loop μ-loop
 loop-holds c = (omega arith, laid-none _ _ _ (c .before .before .before .before .pre .0 .all))
 
--- src/grid.rt:82:13
 place-requires : tie.Need-place-requires Inv-loop μ-loop
 place-requires c κs = let h = c .before .before .before .before .before .before .pre in (h .0 .wide, h .0 .not-wider, h .0 .high, h .0 .not-higher, h .1, h .0 .few, c .loop-test .taken)
 
--- src/grid.rt:83:13
 index-requires : tie.Need-index-requires Inv-loop μ-loop
 index-requires c κs = (c .before .before .before .before .before .before .before .pre .0 .few, c .place .ensures .cut)
 
--- src/grid.rt:84:31
 mul-weigh-at : tie.Need-mul-weigh-at Inv-loop μ-loop
 mul-weigh-at c = search needs
 
--- src/grid.rt:84:31
 array-copy-out-weigh-at : tie.Need-array-copy-out-weigh-at Inv-loop μ-loop
 array-copy-out-weigh-at c = search needs
 
--- src/grid.rt:84:13
 weigh-at-requires : tie.Need-weigh-at-requires Inv-loop μ-loop
 weigh-at-requires c κs =
     let a = c .before .before .before .before .before .before .before .before .before .args in
@@ -71,15 +52,12 @@ weigh-at-requires c κs =
       ratio-here (a .b0 .now) _ (c .before .index .result) _ (a .count) (c .before .before .before .before .before .before .before .ratios .ensures) (c .before .index .ensures .0) (c .before .index .ensures .1) f,
     )
 
--- src/grid.rt:85:31
 mul-weigh-at-2 : tie.Need-mul-weigh-at-2 Inv-loop μ-loop
 mul-weigh-at-2 c = search needs
 
--- src/grid.rt:85:31
 array-copy-out-weigh-at-2 : tie.Need-array-copy-out-weigh-at-2 Inv-loop μ-loop
 array-copy-out-weigh-at-2 c = search needs
 
--- src/grid.rt:85:13
 weigh-at-requires-2 : tie.Need-weigh-at-requires-2 Inv-loop μ-loop
 weigh-at-requires-2 c κs =
     let a = c .before .before .before .before .before .before .before .before .before .before .before .args in
@@ -88,15 +66,12 @@ weigh-at-requires-2 c κs =
       ratio-here (a .b1 .now) _ (c .before .before .before .index .result) _ (a .count) (c .before .before .before .before .before .before .before .before .ratios2 .ensures) (c .before .before .before .index .ensures .0) (c .before .before .before .index .ensures .1) f,
     )
 
--- src/grid.rt:86:31
 mul-weigh-at-3 : tie.Need-mul-weigh-at-3 Inv-loop μ-loop
 mul-weigh-at-3 c = search needs
 
--- src/grid.rt:86:31
 array-copy-out-weigh-at-3 : tie.Need-array-copy-out-weigh-at-3 Inv-loop μ-loop
 array-copy-out-weigh-at-3 c = search needs
 
--- src/grid.rt:86:13
 weigh-at-requires-3 : tie.Need-weigh-at-requires-3 Inv-loop μ-loop
 weigh-at-requires-3 c κs =
     let a = c .before .before .before .before .before .before .before .before .before .before .before .before .before .args in
@@ -105,11 +80,9 @@ weigh-at-requires-3 c κs =
       ratio-here (a .b2 .now) _ (c .before .before .before .before .before .index .result) _ (a .count) (c .before .before .before .before .before .before .before .before .before .ratios3 .ensures) (c .before .before .before .before .before .index .ensures .0) (c .before .before .before .before .before .index .ensures .1) f,
     )
 
--- src/grid.rt:87:9
 put-requires : tie.Need-put-requires Inv-loop μ-loop
 put-requires c κs = (c .before .before .before .before .before .before .before .before .before .loop-test .taken, c .before .before .before .before .before .before .before .before .before .before .loop .inv .1 .long, area-le (c .before .before .before .before .before .before .before .before .before .before .before .before .before .before .before .args .w) (c .before .before .before .before .before .before .before .before .before .before .before .before .before .before .before .args .h) (c .before .before .before .before .before .before .before .before .before .before .before .before .before .before .before .pre .0 .not-wider) (c .before .before .before .before .before .before .before .before .before .before .before .before .before .before .before .pre .0 .not-higher))
 
--- src/grid.rt:88:9
 add-q : tie.Need-add-q Inv-loop μ-loop
 add-q c =
     let a = c .before .before .before .before .before .before .before .before .before .before .before .before .before .before .before .before .before .before .args in
@@ -118,11 +91,9 @@ add-q c =
     let e : a .w * a .h ≤ 65536 = area-le (a .w) (a .h) (c .before .before .before .before .before .before .before .before .before .before .before .before .before .before .before .before .before .before .pre .0 .not-wider) (c .before .before .before .before .before .before .before .before .before .before .before .before .before .before .before .before .before .before .pre .0 .not-higher) in
     record { fits = omega arith }
 
--- src/grid.rt:81:5
 loop-less : tie.Need-loop-less Inv-loop μ-loop
 loop-less c = search needs
 
--- src/grid.rt:81:5
 loop-again : tie.Need-loop-again Inv-loop μ-loop
 loop-again c =
     let a = c .before .before .before .before .before .before .before .before .before .before .before .before .before .before .before .before .before .before .args in
@@ -136,11 +107,9 @@ loop-again c =
           (cell-many (atOf (a .b2 .now)) (l .q) (a .count) (a .w) (a .h) _ _ (c .before .before .before .before .before .before .before .before .before .before .before .before .before .before .before .before .before .before .pre .1) s (c .before .before .before .before .weigh-at3 .ensures)),
     )
 
--- src/grid.rt:72:1
 same-length : tie.Need-same-length Inv-loop μ-loop
 same-length c = search needs
 
--- src/grid.rt:72:1
 returns : tie.Need-returns Inv-loop μ-loop
 unfolding gridOf
 returns c =

@@ -1,20 +1,15 @@
 use native.Mathlib.Nat.{lt-of-le-of-lt}
 use lib.Dec.{lit<}
-use lib.Ieee.{Float}
 -- `grid::fill_one`: place by place (`Laid`). Assumes nothing.
-use mathlib.Core.Path.{_≡_, refl, sym, ap, _∙_, subst}
-use Prim.Native.Nat.{ℕ, _+_, _-_, _*_, _≤_, _<_}
+use Prim.Native.Nat.{_-_, _*_, _≤_, _<_}
 use native.Mathlib.Omega.{arith}
 use borrow.Author.Needs.{needs}
 use Rattle.bands.specs.Bands.{atOf}
 use Rattle.bands.specs.Views.{gridCell, gridOf}
 use Rattle.bands.proofs.Laid.{Laid, laid-none, laid-on, laid-all}
-use Rattle.bands.proofs.Cells.{cell-many, cell-one, ratio-here, area-le, area-pos}
+use Rattle.bands.proofs.Cells.{cell-one, area-le, area-pos}
 use Rattle.bands.proofs.grid.fill_one.Statement.{statement}
 use Rattle.bands.proofs.grid.fill_one.Tie as tie
-use Rattle.bands.proofs.grid.fill_one.Reads as reads
-use Rattle.bands.proofs.grid.fill_one.Lts as lts
-use Rattle.bands.proofs.grid.put.Reads as put-reads
 
 abbrev Inv-loop : tie.InvT-loop
 Inv-loop out₀ b0 b1 b2 w h area q₀ out q = (q ≤ w * h) × Laid (gridCell b0 b1 b2 1 w h) (w * h) q out
@@ -22,39 +17,30 @@ Inv-loop out₀ b0 b1 b2 w h area q₀ out q = (q ≤ w * h) × Laid (gridCell b
 abbrev μ-loop : tie.MeasureT-loop
 μ-loop out₀ b0 b1 b2 w h area q₀ out q = w * h - q
 
--- src/grid.rt:97:16
 mul-area : tie.Need-mul-area Inv-loop μ-loop
 mul-area c = record { fits = lt-of-le-of-lt (area-le (c .before .args .w) (c .before .args .h) (c .before .pre .not-wider) (c .before .pre .not-higher)) (lit< tt) }
 
--- src/grid.rt:99:5
 loop-holds : tie.Need-loop-holds Inv-loop μ-loop
 loop-holds c = (omega arith, laid-none _ _ _ (c .before .pre .all))
 
--- src/grid.rt:100:27
 element-copy-out-put : tie.Need-element-copy-out-put Inv-loop μ-loop
 element-copy-out-put c = search needs
 
--- src/grid.rt:100:34
 element-copy-out-put-2 : tie.Need-element-copy-out-put-2 Inv-loop μ-loop
 element-copy-out-put-2 c = search needs
 
--- src/grid.rt:100:41
 element-copy-out-put-3 : tie.Need-element-copy-out-put-3 Inv-loop μ-loop
 element-copy-out-put-3 c = search needs
 
--- src/grid.rt:100:9
 put-requires : tie.Need-put-requires Inv-loop μ-loop
 put-requires c κs = (c .before .before .before .before .loop-test .taken, c .before .before .before .before .before .loop .inv .1 .long, area-le (c .before .before .before .before .before .before .before .args .w) (c .before .before .before .before .before .before .before .args .h) (c .before .before .before .before .before .before .before .pre .not-wider) (c .before .before .before .before .before .before .before .pre .not-higher))
 
--- src/grid.rt:101:9
 add-q : tie.Need-add-q Inv-loop μ-loop
 add-q c = search needs
 
--- src/grid.rt:99:5
 loop-less : tie.Need-loop-less Inv-loop μ-loop
 loop-less c = search needs
 
--- src/grid.rt:99:5
 loop-again : tie.Need-loop-again Inv-loop μ-loop
 loop-again c =
     let a = c .before .before .before .before .before .before .before .before .before .before .args in
@@ -65,11 +51,9 @@ loop-again c =
           (cell-one (atOf (a .b0 .now)) (a .w) (a .h) _ _) (cell-one (atOf (a .b1 .now)) (a .w) (a .h) _ _) (cell-one (atOf (a .b2 .now)) (a .w) (a .h) _ _),
     )
 
--- src/grid.rt:93:1
 same-length : tie.Need-same-length Inv-loop μ-loop
 same-length c = search needs
 
--- src/grid.rt:93:1
 returns : tie.Need-returns Inv-loop μ-loop
 unfolding gridOf
 returns c =

@@ -3,15 +3,10 @@ use Rattle.bands.proofs.Truncate.{truncates}
 use borrow.Author.Needs.{needs}
 use Rattle.bands.proofs.grid.index.Statement.{statement}
 use Rattle.bands.proofs.grid.index.Tie as tie
-use Rattle.bands.proofs.grid.index.Reads as reads
-use Rattle.bands.proofs.grid.index.Lts as lts
-use Rattle.std.proofs.num.truncating_f32_to_u64.Reads as truncating-f32-to-u64-reads
 
--- src/grid.rt:38:5
 truncating-f32-to-u64-requires : tie.Need-truncating-f32-to-u64-requires
 truncating-f32-to-u64-requires c κs = truncates (c .args .count) (c .args .p) (c .pre .0) (c .pre .1)
 
--- src/grid.rt:34:1
 returns : tie.Need-returns
 returns c = search needs
 

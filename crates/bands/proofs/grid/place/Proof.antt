@@ -1,5 +1,5 @@
 -- `grid::place` gives a position that is a `Cut`. Assumes nothing.
-use mathlib.Core.Path.{_≡_, refl, sym, ap, _∙_, subst}
+use mathlib.Core.Path.{ap, _∙_}
 use Prim.Native.Nat.{_/_, _<_}
 use native.Mathlib.Omega.{arith}
 use lib.Ieee.{Float}
@@ -8,46 +8,33 @@ use Rattle.bands.proofs.Cells.{column, row-under, placed}
 use borrow.Author.Needs.{needs}
 use Rattle.bands.proofs.grid.place.Statement.{statement}
 use Rattle.bands.proofs.grid.place.Tie as tie
-use Rattle.bands.proofs.grid.place.Reads as reads
-use Rattle.bands.proofs.grid.place.Lts as lts
-use Rattle.bands.proofs.spot.distance.Reads as distance-reads
-use Rattle.bands.proofs.spot.position.Reads as position-reads
 
--- src/grid.rt:56:14
 rem-x : tie.Need-rem-x
 rem-x c = search needs
 
--- src/grid.rt:56:13
 cast-x : tie.Need-cast-x
 cast-x c = record { fits = column (c .args .q) (c .args .w) (c .pre .0) (c .pre .1) }
 
--- src/grid.rt:57:14
 div-y : tie.Need-div-y
 div-y c = search needs
 
--- src/grid.rt:57:13
 cast-y : tie.Need-cast-y
 cast-y c =
     let l : c .args .q / c .args .w < c .args .h = row-under (c .args .q) (c .args .w) (c .args .h) (c .pre .0) (c .pre .6) in
     record { fits = omega arith }
 
--- src/grid.rt:58:59
 sub-distance : tie.Need-sub-distance
 sub-distance c = search needs
 
--- src/grid.rt:58:66
 sub-distance-2 : tie.Need-sub-distance-2
 sub-distance-2 c = search needs
 
--- src/grid.rt:58:29
 distance-requires : tie.Need-distance-requires
 distance-requires c κs = search needs
 
--- src/grid.rt:58:5
 position-requires : tie.Need-position-requires
 position-requires c κs = search needs
 
--- src/grid.rt:51:1
 returns : tie.Need-returns
 returns c =
     let a = c .before .before .args in

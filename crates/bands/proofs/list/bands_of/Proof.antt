@@ -1,6 +1,6 @@
 -- `list::bands_of`: band after band (`Filling`). Assumes nothing.
-use mathlib.Core.Path.{_≡_, refl, sym, ap, _∙_, subst}
-use Prim.Native.Nat.{ℕ, _+_, _-_, _≤_, _<_}
+use mathlib.Core.Path.{refl}
+use Prim.Native.Nat.{_-_, _≤_, _<_}
 use native.Mathlib.Omega.{arith}
 use borrow.Author.Needs.{needs}
 use lib.ListN.{length, replicate}
@@ -9,9 +9,6 @@ use Rattle.bands.specs.Bands.{atOf}
 use Rattle.bands.proofs.Sound.{Filling, filling-one, filling-more, filling-all}
 use Rattle.bands.proofs.list.bands_of.Statement.{statement}
 use Rattle.bands.proofs.list.bands_of.Tie as tie
-use Rattle.bands.proofs.list.bands_of.Reads as reads
-use Rattle.bands.proofs.list.bands_of.Lts as lts
-use Rattle.bands.proofs.list.mult.Reads as mult-reads
 
 abbrev Inv-loop : tie.InvT-loop
 Inv-loop numbers bands₀ last₀ i₀ bands last i = Filling (atOf numbers) (length numbers) i last bands
@@ -19,31 +16,24 @@ Inv-loop numbers bands₀ last₀ i₀ bands last i = Filling (atOf numbers) (le
 abbrev μ-loop : tie.MeasureT-loop
 μ-loop numbers bands₀ last₀ i₀ bands last i = length numbers - i
 
--- src/list.rt:49:20
 shared-slice-read-last : tie.Need-shared-slice-read-last Inv-loop μ-loop
 shared-slice-read-last c = omega arith
 
--- src/list.rt:50:5
 array-write-bands : tie.Need-array-write-bands Inv-loop μ-loop
 array-write-bands c = search needs
 
--- src/list.rt:52:5
 loop-holds : tie.Need-loop-holds Inv-loop μ-loop
 loop-holds c = filling-one (atOf (c .before .before .args .numbers .now)) _ (replicate 16 (ofBits binary32 0)) (c .before .before .pre .0) refl
 
--- src/list.rt:53:28
 mul-mult : tie.Need-mul-mult Inv-loop μ-loop
 mul-mult c = search needs
 
--- src/list.rt:53:28
 shared-slice-read-mult : tie.Need-shared-slice-read-mult Inv-loop μ-loop
 shared-slice-read-mult c = search needs
 
--- src/list.rt:53:23
 mult-requires : tie.Need-mult-requires Inv-loop μ-loop
 mult-requires c κs = search needs
 
--- src/list.rt:54:9
 mul-bands : tie.Need-mul-bands Inv-loop μ-loop
 mul-bands c =
     let v = c .before .before .before .loop in
@@ -52,7 +42,6 @@ mul-bands c =
     let h : length l ≤ 16 = c .before .before .before .before .before .before .pre .1 in
     record { fits = omega arith }
 
--- src/list.rt:54:9
 array-write-bands-2 : tie.Need-array-write-bands-2 Inv-loop μ-loop
 array-write-bands-2 c =
     let v = c .before .before .before .loop in
@@ -61,15 +50,12 @@ array-write-bands-2 c =
     let h : length l ≤ 16 = c .before .before .before .before .before .before .pre .1 in
     omega arith
 
--- src/list.rt:55:9
 add-i : tie.Need-add-i Inv-loop μ-loop
 add-i c = search needs
 
--- src/list.rt:52:5
 loop-less : tie.Need-loop-less Inv-loop μ-loop
 loop-less c = search needs
 
--- src/list.rt:52:5
 loop-again : tie.Need-loop-again Inv-loop μ-loop
 loop-again c =
     let v = c .before .before .before .loop in
@@ -78,7 +64,6 @@ loop-again c =
     let h : length l ≤ 16 = c .before .before .before .before .before .before .pre .1 in
     filling-more (atOf l) (length l) (v .i) (v .last) (c .mult .result) (v .bands) (v .inv) (c .mult .ensures) t h
 
--- src/list.rt:44:1
 returns : tie.Need-returns Inv-loop μ-loop
 returns c = filling-all (atOf (c .before .before .before .before .args .numbers .now)) _ (c .before .loop .i) (c .before .loop .last) (c .before .loop .bands) (c .loop-test .left) (c .before .loop .inv)
 

@@ -1,6 +1,5 @@
--- `power::power_at` meets its contract. Assumes nothing.
-use mathlib.Core.Path.{_≡_, refl, sym, ap, _∙_, subst}
-use Prim.Native.Nat.{ℕ}
+-- `own_power::power_at` meets its contract. Assumes nothing.
+use mathlib.Core.Path.{sym, _∙_}
 use Rattle.bands.proofs.Fields.{no-quotient}
 use Rattle.bands.proofs.Accuracy.{not-chosen}
 use Rattle.bands.proofs.RatioLaws.{none-of-zero, ratio-chain, ratio-high, ratio-least, ratio-most, ratio-power}

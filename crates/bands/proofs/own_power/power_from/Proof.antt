@@ -1,11 +1,11 @@
--- `power::power_from` meets its contract: two rows of products are the mantissa, which is in the range that `rounded` asks. Assumes nothing.
-use mathlib.Core.Path.{_≡_, sym, ap, _∙_, subst}
-use Prim.Native.Nat.{ℕ, _+_, _-_, _*_, _/_, _%_, _^_, _≤_, _<_}
+-- `own_power::power_from` meets its contract: two rows of products are the mantissa, which is in the range that `rounded` asks. Assumes nothing.
+use mathlib.Core.Path.{_≡_, sym, _∙_}
+use Prim.Native.Nat.{ℕ, _-_, _*_, _^_, _≤_, _<_}
 use native.Mathlib.Nat.{le-trans, le-of-eq, le-of-lt, lt-of-lt-of-le, lt-of-le-of-lt, mul-le-mul-right}
 use native.Mathlib.Omega.{arith}
 use lib.Dec.{lit≤, lit<}
 use lib.ListN.{getD}
-use Rattle.bands.specs.Power.{products, mantissa, turns}
+use Rattle.bands.specs.Power.{mantissa}
 use Rattle.bands.proofs.ChainLists.{isChain, mantissa-is, power-is}
 use Rattle.bands.proofs.Accuracy.{first-ge, first-lt, g-lt, mantissa-ge, mantissa-lt, turns-ge, turns-lt}
 use borrow.Author.Needs.{needs}

@@ -1,5 +1,5 @@
--- `power::ratio_of` meets its contract. Assumes nothing.
-use mathlib.Core.Path.{_≡_, refl, sym, ap, _∙_, subst}
+-- `own_power::ratio_of` meets its contract. Assumes nothing.
+use mathlib.Core.Path.{sym, ap, _∙_, subst}
 use mathlib.Core.List.{List}
 use mathlib.Core.Logic.{⊎-elim}
 use Prim.Native.Nat.{ℕ}
@@ -7,8 +7,7 @@ use lib.Dec.{T}
 use borrow.Author.Tests.{leb-true, leb-false}
 use lib.Ieee.Compare.{differs-from-itself}
 use Rattle.bands.specs.declared.own_power.Ratio.{Ratio}
-use Rattle.bands.specs.Power.{field, scaled, normal}
-use Rattle.bands.specs.Views.{chainFrom}
+use Rattle.bands.specs.Power.{field}
 use Rattle.bands.proofs.Fields.{normal-of, low-not, high-not, nan-not, same-is-number}
 use Rattle.bands.proofs.RatioLaws.{ratio-some, ratio-none}
 use borrow.Author.Needs.{needs}

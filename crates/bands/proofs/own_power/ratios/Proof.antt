@@ -1,7 +1,6 @@
--- `power::ratios` meets its contract: up to i each ratio is there (`Ratioed`). Assumes nothing.
-use mathlib.Core.Path.{_≡_, refl, sym, ap, _∙_, subst}
-use Prim.Native.Nat.{ℕ, _-_}
-use native.Mathlib.Omega.{arith}
+-- `own_power::ratios` meets its contract: up to i each ratio is there (`Ratioed`). Assumes nothing.
+use mathlib.Core.Path.{refl}
+use Prim.Native.Nat.{_-_}
 use borrow.Author.Needs.{needs}
 use Rattle.bands.proofs.RatioLaws.{Ratioed, ratioed-none, ratioed-more, ratioed-all}
 use Rattle.bands.proofs.own_power.ratios.Statement.{statement}

@@ -1,7 +1,6 @@
--- `power::row` meets its contract: up to j the product is that of the definition (`Row`). Assumes nothing.
+-- `own_power::row` meets its contract: up to j the product is that of the definition (`Row`). Assumes nothing.
 use mathlib.Core.Path.{sym, subst}
 use Prim.Native.Nat.{ℕ, _+_, _-_}
-use native.Mathlib.Omega.{arith}
 use borrow.Author.Needs.{needs}
 use mathlib.Core.Logic.{⊎-elim}
 use Rattle.bands.proofs.ChainLists.{Row, row-start, row-all, row-set, row-clear, row-fits}

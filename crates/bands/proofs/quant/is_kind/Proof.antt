@@ -1,31 +1,21 @@
 -- `quant::is_kind` is `kindIs`. Assumes nothing.
-use mathlib.Core.Path.{_≡_, refl, sym, ap, _∙_, subst}
-use mathlib.Core.Bool.{Bool, true, false}
-use Prim.Native.Nat.{ℕ, _+_, _-_, _*_, _≤_, _<_}
-use native.Mathlib.Omega.{arith}
+use mathlib.Core.Path.{sym, ap, _∙_}
+use Prim.Native.Nat.{ℕ, _-_}
 use lib.Dec.{eqb}
-use Rattle.bands.proofs.QuantLaws.{kind-off, kind-on}
+use Rattle.bands.proofs.LentLaws.{kind-off, kind-on}
 use borrow.Author.Needs.{needs}
 use Rattle.bands.proofs.quant.is_kind.Statement.{statement}
 use Rattle.bands.proofs.quant.is_kind.Tie as tie
-use Rattle.bands.proofs.quant.is_kind.Reads as reads
-use Rattle.bands.proofs.quant.is_kind.Lts as lts
-use Rattle.transform.proofs.Kind.height.Reads as height-reads
-use Rattle.transform.proofs.Kind.width.Reads as width-reads
 
--- src/quant.rt:25:13
 width-requires : tie.Need-width-requires
 width-requires c κs = search needs
 
--- src/quant.rt:26:9
 returns : tie.Need-returns
 returns c = kind-off (c .before .before .args .w) (c .before .before .args .h) (c .before .before .args .k) (λ e. c .if1 .taken (e ∙ sym (c .before .width .ensures)))
 
--- src/quant.rt:28:10
 height-requires : tie.Need-height-requires
 height-requires c κs = search needs
 
--- src/quant.rt:21:1
 returns-2 : tie.Need-returns-2
 returns-2 c = ap (λ (z : ℕ). eqb (c .before .before .before .args .h) z) (c .height .ensures) ∙ kind-on (c .before .before .before .args .w) (c .before .before .before .args .h) (c .before .before .before .args .k) (c .before .if1 .left ∙ c .before .before .width .ensures)
 

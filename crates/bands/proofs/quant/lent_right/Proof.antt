@@ -1,42 +1,32 @@
 -- `quant::lent_right` is `lentRight`, test by test. Assumes nothing.
-use mathlib.Core.Path.{_≡_, refl, sym, ap, _∙_, subst}
-use mathlib.Core.Bool.{Bool, true, false}
-use Prim.Native.Nat.{ℕ, _+_, _-_, _*_, _≤_, _<_}
+use mathlib.Core.Path.{sym, _∙_}
+use mathlib.Core.Bool.{true, false}
+use Prim.Native.Nat.{_-_}
 use native.Mathlib.Omega.{arith}
-use Rattle.bands.proofs.QuantLaws.{undo, grid-sides, lent-none, lent-many, lent-numbers, lent-grid, lent-last}
+use Rattle.bands.proofs.LentLaws.{undo, grid-sides, lent-none, lent-many, lent-numbers, lent-grid, lent-last}
 use Rattle.bands.proofs.Cells.{area-le}
 use borrow.Author.Needs.{needs}
 use Rattle.bands.proofs.quant.lent_right.Statement.{statement}
 use Rattle.bands.proofs.quant.lent_right.Tie as tie
-use Rattle.bands.proofs.quant.lent_right.Reads as reads
-use Rattle.bands.proofs.quant.lent_right.Lts as lts
-use Rattle.bands.proofs.quant.on_grid.Reads as on-grid-reads
 
--- src/quant.rt:65:9
 returns : tie.Need-returns
 returns c = let a = c .before .args in lent-none (a .numbers) (a .count) (a .w) (a .h) (a .places) (c .if1 .taken)
 
--- src/quant.rt:68:9
 returns-2 : tie.Need-returns-2
 returns-2 c = let a = c .before .before .args in lent-many (a .numbers) (a .count) (a .w) (a .h) (a .places) (c .before .if1 .left) (c .if2 .taken)
 
--- src/quant.rt:70:19
 mul-if3 : tie.Need-mul-if3
 mul-if3 c = search needs
 
--- src/quant.rt:71:9
 returns-3 : tie.Need-returns-3
 returns-3 c = let a = c .before .before .before .args in lent-numbers (a .numbers) (a .count) (a .w) (a .h) (a .places) (c .before .before .if1 .left) (c .before .if2 .left) (c .if3 .taken)
 
--- src/quant.rt:73:9
 on-grid-requires : tie.Need-on-grid-requires
 on-grid-requires c κs = search needs
 
--- src/quant.rt:74:9
 returns-4 : tie.Need-returns-4
 returns-4 c = let a = c .before .before .before .before .before .args in lent-grid (a .numbers) (a .count) (a .w) (a .h) (a .places) (c .before .before .before .before .if1 .left) (c .before .before .before .if2 .left) (c .before .before .if3 .left) (sym (c .before .on-grid .ensures) ∙ undo (c .before .on-grid .result) true (c .if4 .taken))
 
--- src/quant.rt:76:20
 mul-result : tie.Need-mul-result
 mul-result c =
     let a = c .before .before .before .before .before .args in
@@ -44,7 +34,6 @@ mul-result c =
     let m = area-le (a .w) (a .h) (s .not-wider) (s .not-higher) in
     record { fits = omega arith }
 
--- src/quant.rt:76:15
 mul-result-2 : tie.Need-mul-result-2
 mul-result-2 c =
     let a = c .before .before .before .before .before .args in
@@ -52,7 +41,6 @@ mul-result-2 c =
     let m = area-le (a .w) (a .h) (s .not-wider) (s .not-higher) in
     record { fits = omega arith }
 
--- src/quant.rt:61:1
 returns-5 : tie.Need-returns-5
 returns-5 c = let a = c .before .before .before .before .before .args in lent-last (a .numbers) (a .count) (a .w) (a .h) (a .places) (c .before .before .before .before .if1 .left) (c .before .before .before .if2 .left) (c .before .before .if3 .left) (sym (c .before .on-grid .ensures) ∙ undo (c .before .on-grid .result) false (c .if4 .left))
 

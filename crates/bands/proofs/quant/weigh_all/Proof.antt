@@ -1,103 +1,76 @@
 -- `quant::weigh_all`: the three arrays are the channels' bands. Assumes nothing.
-use mathlib.Core.Path.{_≡_, refl, sym, ap, _∙_, subst}
-use mathlib.Core.Bool.{Bool, true, false}
-use Prim.Native.Nat.{ℕ, _+_, _-_, _*_, _≤_, _<_}
+use mathlib.Core.Path.{refl, _∙_}
+use Prim.Native.Nat.{_+_, _-_, _<_}
 use native.Mathlib.Omega.{arith}
 use lib.Dec.{lit<}
 use Rattle.bands.proofs.QuantLaws.{banding-part, table-is}
 use borrow.Author.Needs.{needs}
 use Rattle.bands.proofs.quant.weigh_all.Statement.{statement}
 use Rattle.bands.proofs.quant.weigh_all.Tie as tie
-use Rattle.bands.proofs.quant.weigh_all.Reads as reads
-use Rattle.bands.proofs.quant.weigh_all.Lts as lts
-use Rattle.bands.proofs.grid.fill.Reads as fill-reads
-use Rattle.bands.proofs.list.bands_of.Reads as bands-of-reads
 
--- src/quant.rt:115:15
 add-two : tie.Need-add-two
 add-two c = search needs
 
--- src/quant.rt:116:15
 add-all : tie.Need-add-all
 add-all c = search needs
 
--- src/quant.rt:117:23
 sub-bands-of : tie.Need-sub-bands-of
 sub-bands-of c = search needs
 
--- src/quant.rt:117:23
 part-bands-of-start : tie.Need-part-bands-of-start
 part-bands-of-start c = search needs
 
--- src/quant.rt:117:23
 part-bands-of-end : tie.Need-part-bands-of-end
 part-bands-of-end c = search needs
 
--- src/quant.rt:117:14
 bands-of-requires : tie.Need-bands-of-requires
 bands-of-requires c κs = search needs
 
--- src/quant.rt:118:23
 mul-bands-of : tie.Need-mul-bands-of
 mul-bands-of c = search needs
 
--- src/quant.rt:118:23
 sub-bands-of-2 : tie.Need-sub-bands-of-2
 sub-bands-of-2 c = search needs
 
--- src/quant.rt:118:23
 part-bands-of-start-2 : tie.Need-part-bands-of-start-2
 part-bands-of-start-2 c = search needs
 
--- src/quant.rt:118:23
 part-bands-of-end-2 : tie.Need-part-bands-of-end-2
 part-bands-of-end-2 c = search needs
 
--- src/quant.rt:118:14
 bands-of-requires-2 : tie.Need-bands-of-requires-2
 bands-of-requires-2 c κs = search needs
 
--- src/quant.rt:119:23
 mul-bands-of-2 : tie.Need-mul-bands-of-2
 mul-bands-of-2 c = search needs
 
--- src/quant.rt:119:23
 sub-bands-of-3 : tie.Need-sub-bands-of-3
 sub-bands-of-3 c = search needs
 
--- src/quant.rt:119:23
 part-bands-of-start-3 : tie.Need-part-bands-of-start-3
 part-bands-of-start-3 c = search needs
 
--- src/quant.rt:119:23
 part-bands-of-end-3 : tie.Need-part-bands-of-end-3
 part-bands-of-end-3 c = search needs
 
--- src/quant.rt:119:14
 bands-of-requires-3 : tie.Need-bands-of-requires-3
 bands-of-requires-3 c κs = search needs
 
--- src/quant.rt:120:30
 cast-fill : tie.Need-cast-fill
 cast-fill c = search needs
 
--- src/quant.rt:120:44
 cast-fill-2 : tie.Need-cast-fill-2
 cast-fill-2 c = search needs
 
--- src/quant.rt:120:54
 cast-fill-3 : tie.Need-cast-fill-3
 cast-fill-3 c = search needs
 
--- src/quant.rt:120:5
 fill-requires : tie.Need-fill-requires
 fill-requires c κs = search needs
 
--- src/quant.rt:111:1
 same-length : tie.Need-same-length
 same-length c = search needs
 
--- src/quant.rt:111:1
 returns : tie.Need-returns
 returns c =
     let s = c .before .before .before .before .before .before .before .before .before .before .before .before .before .before .before in

@@ -1,12 +1,10 @@
 -- `lift` meets its contract: `Lifting` is its invariant. Assumes nothing.
-use Prim.Native.Nat.{ℕ, _-_, _^_}
+use Prim.Native.Nat.{_-_}
 use native.Mathlib.Omega.{arith}
 use borrow.Author.Needs.{needs}
 use Rattle.bands.proofs.Lift.{Lifting, start, start-most, down-to, turn, done}
 use Rattle.bands.proofs.root.lift.Statement.{statement}
 use Rattle.bands.proofs.root.lift.Tie as tie
-use Rattle.bands.proofs.root.lift.Reads as reads
-use Rattle.bands.proofs.root.lift.Lts as lts
 
 abbrev Inv-loop : tie.InvT-loop
 Inv-loop m e n₀ h₀ n h = Lifting m e n h

@@ -1,4 +1,4 @@
--- `power::whole_root` meets its contract: `root` is the root of x's upper digits, of which k are left (`Partly`). Assumes nothing.
+-- `whole::whole_root` meets its contract: `root` is the root of x's upper digits, of which k are left (`Partly`). Assumes nothing.
 use Prim.Native.Nat.{_+_, _*_, _^_, _<_}
 use Rattle.bands.proofs.Roots.{Partly, partly-none, partly-all, partly-one, partly-zero, next-fits}
 use native.Mathlib.Omega.{arith}
