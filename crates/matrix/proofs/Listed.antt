@@ -12,7 +12,8 @@ use Rattle.bands.specs.Quant as quant
 use Rattle.bands.specs.Quant.{soundOf, dctLeaves}
 use Rattle.bands.specs.declared.quant.Banded.the-variants as banded
 use Rattle.bands.proofs.TableLaws.{length-tab}
-use Rattle.bands.proofs.QuantLaws.{lent-last, answer-none, answer-on, all-done}
+use Rattle.bands.proofs.LentLaws.{lent-last}
+use Rattle.bands.proofs.QuantLaws.{answer-none, answer-on, all-done}
 use Rattle.matrix.specs.declared.numbers.Numbers.{Numbers}
 use Rattle.matrix.specs.Numbers.{bandNumber, listOf, count}
 use Rattle.matrix.specs.Views.{AllSound, Grid, gridsOf}
