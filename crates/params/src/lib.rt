@@ -2,6 +2,9 @@
 mod read;
 mod rows;
 
+pub use read::FIXED;
+pub use read::LISTS;
 pub use read::Reading;
+pub use read::allows;
 pub use read::read_header;
 pub use rows::row_ok;

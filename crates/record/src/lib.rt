@@ -1,0 +1,4 @@
+// The text record of a description: written and read.
+mod fixed;
+mod piece;
+mod put;
