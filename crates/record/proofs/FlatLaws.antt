@@ -50,7 +50,7 @@ fixed-small (suc (suc (suc (suc (suc (suc zero)))))) = omega arith
 fixed-small (suc (suc (suc (suc (suc (suc (suc zero))))))) = omega arith
 fixed-small (suc (suc (suc (suc (suc (suc (suc (suc m)))))))) = omega arith
 
-slots-short : (k : ℕ) (e : Entry) → entry k .Ok e → length (slots e) ≤ 126
+pub slots-short : (k : ℕ) (e : Entry) → entry k .Ok e → length (slots e) ≤ 126
 unfolding entry
 slots-short k e o =
     let p : parts k (e .0) .Ok (e .1) = o .1 in

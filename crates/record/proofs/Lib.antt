@@ -17,3 +17,5 @@ pub mod RowLaws
 pub mod KindPlaces
 pub mod FlatLaws
 pub mod Framed
+pub mod LinePlaces
+pub mod PartPlaces

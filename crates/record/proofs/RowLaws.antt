@@ -32,7 +32,7 @@ pub line-length : {A : Type 0} (name : List ℕ) (d : A) (F : ℕ → Format A) 
 line-length name d F zero l o = ap length o
 line-length name d F (suc n) l o = seqs-length d (items F (suc n)) l (o .0 .1) ∙ items-length F (suc n)
 
-two-at-most : (m : ℕ) → lists m ≤ 2
+pub two-at-most : (m : ℕ) → lists m ≤ 2
 two-at-most zero = omega arith
 two-at-most (suc zero) = omega arith
 two-at-most (suc (suc zero)) = omega arith

@@ -1,4 +1,5 @@
 // The text record of a description: written and read.
 mod fixed;
+mod kinds;
 mod piece;
 mod put;

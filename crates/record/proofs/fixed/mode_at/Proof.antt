@@ -26,7 +26,7 @@ enum-known-m c = search needs
 
 -- src/fixed.rt:138:37
 orders-at-requires : tie.Need-orders-at-requires
-orders-at-requires c κs = mode-within _ _ _ _ (c .before .m .given .0 .0) _ (search (lit-within, needs)) (c .before .before .before .mode-digit .ensures) (search)
+orders-at-requires c κs = mode-within (c .before .before .before .before .before .before .before .before .before .args .kind) _ (c .before .before .before .before .before .p .given .0 .0) _ (c .before .m .given .0 .0) _ (search (lit-within, needs)) (c .before .before .before .mode-digit .ensures) (search)
 
 -- src/fixed.rt:139:27
 enum-known-e : tie.Need-enum-known-e

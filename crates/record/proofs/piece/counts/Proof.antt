@@ -35,7 +35,7 @@ end-of-requires : tie.Need-end-of-requires Inv-loop μ-loop
 end-of-requires c κs = search needs
 
 number-at-requires : tie.Need-number-at-requires Inv-loop μ-loop
-number-at-requires c κs = (c .before .before .loop .inv .1 .within, subst⁻¹ (λ (x : ℕ). x < 48) (c .end-of .ensures) (end-small _))
+number-at-requires c κs = (c .before .before .loop .inv .1 .within, subst⁻¹ (λ (x : ℕ). x < 48) (c .end-of .ensures) (end-small (c .before .before .loop .left - 1)))
 
 enum-known-q : tie.Need-enum-known-q Inv-loop μ-loop
 enum-known-q c = search needs
@@ -50,7 +50,7 @@ enum-known-v : tie.Need-enum-known-v Inv-loop μ-loop
 enum-known-v c = search needs
 
 cast-put-u16 : tie.Need-cast-put-u16 Inv-loop μ-loop
-cast-put-u16 c = record { fits = omega (arith, number-limit 16 (c .before .before .before .before .before .end-of .result) _ _ _ (c .before .before .v .given .0 .0) (c .before .before .v .given .0 .1 .0) (subst⁻¹ (λ (x : ℕ). x < 48) (c .before .before .before .before .before .end-of .ensures) (end-small _)) (omega arith) (c .before .before .before .before .before .before .before .loop .inv .1 .within) (c .before .before .before .before .number-at .ensures) (search)) }
+cast-put-u16 c = record { fits = omega (arith, number-limit 16 (c .before .before .before .before .before .end-of .result) _ _ _ (c .before .before .v .given .0 .0) (c .before .before .v .given .0 .1 .0) (subst⁻¹ (λ (x : ℕ). x < 48) (c .before .before .before .before .before .end-of .ensures) (end-small (c .before .before .before .before .before .before .before .loop .left - 1))) (omega arith) (c .before .before .before .before .before .before .before .loop .inv .1 .within) (c .before .before .before .before .number-at .ensures) (search)) }
 
 put-u16-requires : tie.Need-put-u16-requires Inv-loop μ-loop
 put-u16-requires c κs = search needs
