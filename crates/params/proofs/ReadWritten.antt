@@ -10,7 +10,7 @@ use Rattle.bitstream.specs.declared.Bits.{Bits}
 use Rattle.bitstream.specs.declared.Bits.the-variants.{Value, Short}
 use Rattle.bitstream.proofs.Laws.{value-next}
 use Rattle.params.specs.Row.{Hand, on, short, mode, float, numbers, bandList, bandLists, fixed, lists, allowed, entryIs, entry}
-use Rattle.params.specs.Written.{Field, bits, span, Spells, numbersOf, Fine, rowOf, Bands, Start, Written, plain, one, two}
+use Rattle.params.proofs.Written.{Field, bits, span, Spells, numbersOf, Fine, rowOf, Bands, Start, Written, plain, one, two}
 use Rattle.params.proofs.RowLaws.{shape-fits, entry-on}
 use Rattle.params.proofs.Shape.{shaped, Found, numbers-found, numbers-spelt, FoundList, list-found, list-spelt, list-inner, spells-append, spells-left, spells-right, span-append, span-numbers}
 

@@ -1,24 +1,23 @@
--- The rows that a reading can write are exactly those that `Written` gives, with fields that bits can spell.
+-- Fields that bits can spell, the bytes that spell them, and the row that a kind's entry is read into.
 use mathlib.Core.Path.{_≡_, refl, sym, ap, _∙_}
 use mathlib.Core.List.{List, [], _∷_}
 use Prim.Native.Nat.{ℕ, zero, suc, _+_, _-_, _*_, _/_, _%_, _^_, _≤_, _<_}
 use native.Mathlib.Omega.{arith}
-use lib.Dec.{T}
-use lib.Pow.{shr-shr, high, low, areBytes}
+use lib.Pow.{shr-shr, high, low}
 use Rattle.bitstream.specs.Bits.{readBits, field}
 use Rattle.bitstream.specs.declared.Bits.the-variants.{Value}
 use Rattle.bitstream.proofs.Laws.{read-in, value-lt, value-width}
-use Rattle.bitstream.proofs.Bytes.{bytesOf, length-bytesOf, bytesOf-bytes, field-at}
+use Rattle.bitstream.proofs.Bytes.{bytesOf, length-bytesOf, field-at}
 use Rattle.params.specs.Row.{on, entry}
-use Rattle.params.specs.Written.{Field, span, Spells, Sized, Written}
-use Rattle.params.proofs.ReadWritten.{Read, entry-read, entry-spelt}
+use Rattle.params.proofs.Written.{Field, span, Spells, Sized, Written}
+use Rattle.params.proofs.ReadWritten.{Read, entry-read}
 
 -- the fields as one number, the first the lowest
-abbrev numberOf : List Field → ℕ
+abbrev pub numberOf : List Field → ℕ
 numberOf [] = 0
 numberOf (f ∷ fs) = numberOf fs * 2 ^ f .width + f .value
 
-spelt : (n x p : ℕ) (fs : List Field) → Sized fs → x / 2 ^ p ≡ numberOf fs → p + span fs ≤ 8 * n → p + span fs < 2 ^ 64 → Spells (bytesOf n x) p fs
+pub spelt : (n x p : ℕ) (fs : List Field) → Sized fs → x / 2 ^ p ≡ numberOf fs → p + span fs ≤ 8 * n → p + span fs < 2 ^ 64 → Spells (bytesOf n x) p fs
 spelt n x p [] z e h k = tt
 spelt n x p (f ∷ fs) z e h k =
     let w = f .width in
@@ -32,20 +31,9 @@ sized : (b : List ℕ) (p : ℕ) (fs : List Field) → Spells b p fs → Sized f
 sized b p [] l = tt
 sized b p (f ∷ fs) l = (value-width b p (f .width) (f .value) (p + f .width) (l .0), value-lt b p (f .width) (f .value) (p + f .width) (l .0), sized b (p + f .width) fs (l .1))
 
--- some bytes, read as the kind's entry, give the row
-pub Readable : ℕ → List ℕ → Type 0
-Readable kind row = (b : List ℕ) × T (areBytes b) × (p : ℕ) × (q : ℕ) × (s : ℕ) × (entry b kind p ≡ on q s row)
-
-pub written-readable : (kind : ℕ) (row : List ℕ) (fs : List Field) → Written kind row fs → Sized fs → span fs < 2 ^ 64 → Readable kind row
-unfolding Readable
-written-readable kind row fs w z k =
-    let b = bytesOf (span fs) (numberOf fs) in
-    let r = entry-spelt b kind 0 row fs w (spelt (span fs) (numberOf fs) 0 fs z (omega arith) (omega arith) (omega arith)) in
-    (b, bytesOf-bytes (span fs) (numberOf fs), 0, 0 + span fs, r .0, r .1)
-
-pub readable-written : (kind : ℕ) (row : List ℕ) → Readable kind row → (fs : List Field) × Written kind row fs × Sized fs
-unfolding Readable
-readable-written kind row (b, t, p, q, s, e) = go (entry-read b kind p q s row e)
+-- a row that is read is one that `Written` gives, with fields that bits can spell
+pub read-written : (b : List ℕ) (kind p q s : ℕ) (row : List ℕ) → entry b kind p ≡ on q s row → (fs : List Field) × Written kind row fs × Sized fs
+read-written b kind p q s row e = go (entry-read b kind p q s row e)
   where
     go : Read b kind p q row → (fs : List Field) × Written kind row fs × Sized fs
     go r = (r .fields, r .written, sized b p (r .fields) (r .spelt))

@@ -1,4 +1,4 @@
--- ROW, as document 01 says it: `rowOk` passes exactly the rows that some reading writes.
+-- `entryRow` passes exactly the rows that a kind's entry is read into: what passes has fields that bits can spell, and what is read passes.
 use mathlib.Core.Path.{_≡_, refl, sym, ap, _∙_}
 use mathlib.Core.Bool.{true}
 use mathlib.Core.List.{List, [], _∷_, _++_}
@@ -6,19 +6,20 @@ use Prim.Native.Nat.{ℕ, zero, suc, _+_, _-_, _*_, _^_, _≤_, _<_}
 use native.Mathlib.Omega.{arith}
 use lib.ListN.{length, replicate, length-append}
 use lib.Dec.{lit≤}
-use Rattle.params.specs.Written.{Field, bits, span, Sized, numbersOf, rowOf, Bands, Start, Written, plain, one, two}
-use Rattle.params.specs.Valid.{rowOk}
+use Rattle.params.proofs.Written.{Field, bits, span, Sized, numbersOf, rowOf, Bands, Start, Written, plain, one, two}
+use Rattle.params.specs.Allowed.{entryRow}
 use Rattle.params.proofs.RowLaws.{shape-fits}
 use Rattle.params.proofs.Shape.{span-append, span-numbers}
-use Rattle.params.proofs.ValidLaws.{written-ok, ok-written}
-use Rattle.params.proofs.Readable.{Readable, written-readable, readable-written}
+use Rattle.params.proofs.AllowedLaws.{written-ok, ok-written, ok-long}
+use Rattle.params.specs.Row.{on, entry}
+use Rattle.params.proofs.Readable.{read-written}
 
 -- every element is a 16-bit number, as in a slice of u16
 abbrev pub Small : List ℕ → Type 0
 Small [] = Unit {0}
 Small (v ∷ vs) = (v < 65536) × Small vs
 
-small-left : (a x : List ℕ) → Small (a ++ x) → Small a
+pub small-left : (a x : List ℕ) → Small (a ++ x) → Small a
 small-left [] x s = tt
 small-left (v ∷ a) x s = (s .0, small-left a x (s .1))
 
@@ -26,11 +27,11 @@ small-right : (a x : List ℕ) → Small (a ++ x) → Small x
 small-right [] x s = s
 small-right (v ∷ a) x s = small-right a x (s .1)
 
-sized-numbers : (vs : List ℕ) → Small vs → Sized (numbersOf vs)
+pub sized-numbers : (vs : List ℕ) → Small vs → Sized (numbersOf vs)
 sized-numbers [] s = tt
 sized-numbers (v ∷ vs) s = (lit≤ tt, s .0, sized-numbers vs (s .1))
 
-sized-append : (fs gs : List Field) → Sized fs → Sized gs → Sized (fs ++ gs)
+pub sized-append : (fs gs : List Field) → Sized fs → Sized gs → Sized (fs ++ gs)
 sized-append [] gs x y = y
 sized-append (f ∷ fs) gs x y = (x .0, x .1, sized-append fs gs (x .2) y)
 
@@ -54,24 +55,30 @@ sized kind m row fs (two m' c d a x y l o f g) h s =
       ),
     )
 
-short : (kind m : ℕ) (row : List ℕ) (fs : List Field) → Written kind row (bits 3 m ∷ fs) → span (bits 3 m ∷ fs) < 2 ^ 64
+short : (kind m : ℕ) (row : List ℕ) (fs : List Field) → Written kind row (bits 3 m ∷ fs) → 1 + span (bits 3 m ∷ fs) < 2 ^ 64
 short kind m row fs (plain m' a l o) = omega (arith, span-numbers a, shape-fits m', o .count)
 short kind m row fs (one m' c a x l o f) =
     omega (arith, span-append (numbersOf a) (bits 4 (c - 1) ∷ numbersOf x), span-numbers a, span-numbers x, shape-fits m', o .count, f .count, f .few)
 short kind m row fs (two m' c d a x y l o f g) =
     omega (arith, span-append (numbersOf a) (bits 4 (c - 1) ∷ (numbersOf x ++ bits 4 (d - 1) ∷ numbersOf y)), span-append (numbersOf x) (bits 4 (d - 1) ∷ numbersOf y), span-numbers a, span-numbers x, span-numbers y, shape-fits m', o .count, f .count, f .few, g .count, g .few)
 
-pub ok-readable : (kind : ℕ) (row : List ℕ) → Small row → rowOk kind row ≡ true → Readable kind row
-ok-readable kind row s e =
+-- what passes has fields that bits can spell
+pub ok-fields : (kind : ℕ) (row : List ℕ) → Small row → entryRow kind row ≡ true → (fs : List Field) × Written kind row fs × Sized fs × (1 + span fs < 2 ^ 64)
+ok-fields kind row s e =
     let (m, fs, w, h) = ok-written kind row e in
-    written-readable kind row (bits 3 m ∷ fs) w (sized kind m row fs w h s) (short kind m row fs w)
+    (bits 3 m ∷ fs, w, sized kind m row fs w h s, short kind m row fs w)
 
-sized-ok : (kind : ℕ) (row : List ℕ) (fs : List Field) → Written kind row fs → Sized fs → rowOk kind row ≡ true
+sized-ok : (kind : ℕ) (row : List ℕ) (fs : List Field) → Written kind row fs → Sized fs → entryRow kind row ≡ true
 sized-ok kind row fs (plain m a l o) z = written-ok kind m _ _ (plain m a l o) (z .1)
 sized-ok kind row fs (one m c a x l o f) z = written-ok kind m _ _ (one m c a x l o f) (z .1)
 sized-ok kind row fs (two m c d a x y l o f g) z = written-ok kind m _ _ (two m c d a x y l o f g) (z .1)
 
-pub readable-ok : (kind : ℕ) (row : List ℕ) → Readable kind row → rowOk kind row ≡ true
-readable-ok kind row r =
-    let w = readable-written kind row r in
+-- what is read passes
+pub entry-ok : (b : List ℕ) (kind p q s : ℕ) (row : List ℕ) → entry b kind p ≡ on q s row → entryRow kind row ≡ true
+entry-ok b kind p q s row e =
+    let w = read-written b kind p q s row e in
     sized-ok kind row (w .0) (w .1) (w .2)
+
+-- and has 128 numbers
+pub entry-long : (b : List ℕ) (kind p q s : ℕ) (row : List ℕ) → entry b kind p ≡ on q s row → length row ≡ 128
+entry-long b kind p q s row e = ok-long kind row (entry-ok b kind p q s row e)

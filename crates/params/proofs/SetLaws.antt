@@ -27,21 +27,22 @@ module _ (kind : ℕ) (rows rows' : List ℕ) (h : Hand) (p s : ℕ) (row : List
 abbrev pub Stopped : Reading → Type 0
 Stopped r = OneOf (1 ∷ 2 ∷ 3 ∷ 4 ∷ 5 ∷ []) (tagOf the-type r)
 
-stays : (b : List ℕ) (n k : ℕ) (r : Reading) (rows : List ℕ) → ((j : ℕ) → after b j r rows ≡ gives r rows)
+-- a reading that is stopped stays so
+pub kinds-stays : (b : List ℕ) (n k : ℕ) (r : Reading) (rows : List ℕ) → ((j : ℕ) → after b j r rows ≡ gives r rows)
     → kinds b n k (gives r rows) ≡ gives r rows
 unfolding kinds
-stays b zero k r rows h = refl
-stays b (suc n) k r rows h = ap (kinds b n (k + 1)) (h k) ∙ stays b n (k + 1) r rows h
+kinds-stays b zero k r rows h = refl
+kinds-stays b (suc n) k r rows h = ap (kinds b n (k + 1)) (h k) ∙ kinds-stays b n (k + 1) r rows h
 
 pub kinds-stop : (b : List ℕ) (n k : ℕ) (r : Reading) (rows : List ℕ) → Stopped r → kinds b n k (gives r rows) ≡ gives r rows
 kinds-stop b n k (Done p) rows t =
     absurd
     (⊎-elim (λ e. omega arith) (λ e. ⊎-elim (λ f. omega arith) (λ f. ⊎-elim (λ g. omega arith) (λ g. ⊎-elim (λ i. omega arith) (λ i. omega arith) g) f) e) t)
-kinds-stop b n k Lent rows t = stays b n k Lent rows (λ j. refl)
-kinds-stop b n k (Short j p) rows t = stays b n k (Short j p) rows (λ i. refl)
-kinds-stop b n k (Mode j p) rows t = stays b n k (Mode j p) rows (λ i. refl)
-kinds-stop b n k (Float j p) rows t = stays b n k (Float j p) rows (λ i. refl)
-kinds-stop b n k (Raw j p) rows t = stays b n k (Raw j p) rows (λ i. refl)
+kinds-stop b n k Lent rows t = kinds-stays b n k Lent rows (λ j. refl)
+kinds-stop b n k (Short j p) rows t = kinds-stays b n k (Short j p) rows (λ i. refl)
+kinds-stop b n k (Mode j p) rows t = kinds-stays b n k (Mode j p) rows (λ i. refl)
+kinds-stop b n k (Float j p) rows t = kinds-stays b n k (Float j p) rows (λ i. refl)
+kinds-stop b n k (Raw j p) rows t = kinds-stays b n k (Raw j p) rows (λ i. refl)
 
 -- one kind more
 pub kinds-step : (b : List ℕ) (k p : ℕ) (rows : List ℕ) (o : Outcome) → k < 17 → o ≡ kindIs k rows (entry b k p)

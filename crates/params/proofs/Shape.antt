@@ -12,7 +12,7 @@ use Rattle.bitstream.specs.declared.Bits.{Bits}
 use Rattle.bitstream.specs.declared.Bits.the-variants.{Value, Short}
 use Rattle.bitstream.proofs.Laws.{value-next, value-lt}
 use Rattle.params.specs.Row.{Hand, on, short, mode, float, numberIs, number, numbers, listIs, bandList}
-use Rattle.params.specs.Written.{Field, bits, span, Spells, numbersOf, Fine, rowOf, Bands}
+use Rattle.params.proofs.Written.{Field, bits, span, Spells, numbersOf, Fine, rowOf, Bands}
 use Rattle.params.proofs.RowLaws.{numbers-short, numbers-float}
 
 -- a row in hand that has this much of the shape

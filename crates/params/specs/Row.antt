@@ -8,26 +8,11 @@ use Rattle.bitstream.specs.Bits.{readBits}
 use Rattle.bitstream.specs.Half.{barred}
 use Rattle.bitstream.specs.declared.Bits.{Bits}
 use Rattle.bitstream.specs.declared.Bits.the-variants.{Value, Short}
-use Rattle.params.specs.declared.read.Step.{Step}
-use Rattle.params.specs.declared.read.Step.the-variants as step
 
 -- A row in hand: the next bit, the next free slot and the row so far. Or the field that starts at a bit is refused.
 pub data Hand : Type 0 where
   on : (bit slot : ℕ) (row : List ℕ) → Hand
   short mode float : (bit : ℕ) → Hand
-
--- what a step of the program and the row that it leaves come to
-abbrev pub hand : Step → List ℕ → Hand
-hand (step.On p s) row = on p s row
-hand (step.Short p) row = short p
-hand (step.Mode p) row = mode p
-hand (step.Float p) row = float p
-
-abbrev pub slotOf : Step → ℕ
-slotOf (step.On p s) = s
-slotOf (step.Short p) = 0
-slotOf (step.Mode p) = 0
-slotOf (step.Float p) = 0
 
 -- one number: 16 bits, into the next slot
 abbrev pub numberIs : ℕ → ℕ → List ℕ → Bits → Hand

@@ -1,12 +1,14 @@
-// The ROW check: whether a row is one that some reading writes.
+// The ROW check: whether a row is one that some reading writes, and the first kind of a set whose row is none.
 use crate::read::FIXED;
 use crate::read::LISTS;
 use crate::read::allows;
 ghost use mathlib.Core.Path.{_≡_};
+ghost use lib.Dec.{eqb};
+ghost use Rattle.transform.specs.First.{before};
 ghost use Prim.Native.Nat.{_+_, _*_, _≤_, _<_};
 ghost use lib.ListN.{length};
 ghost use Rattle.params.specs.Row.{fixed};
-ghost use Rattle.params.specs.Valid.{allFine, allZero, countOk, partsOk, rowOk};
+ghost use Rattle.params.specs.Allowed.{allFine, allZero, countOk, partsOk, entryRow, flagRow, rowAllowed, rowAt, modeAt, flagFault, rowFault, checkRows};
 
 fn all_fine(part: &[u16]) -> bool
     ensures { λ r. ⌜ r ≡ allFine (now (part .entry)) ⌝ }
@@ -87,9 +89,9 @@ fn wide(x: u16) -> usize
     x as usize
 }
 
-// Whether some reading writes this row for this kind.
-pub fn row_ok(kind: usize, row: &[u16]) -> bool
-    ensures { λ r. ⌜ r ≡ rowOk kind (now (row .entry)) ⌝ }
+// Whether the reading of this kind's entry writes this row.
+fn entry_row(kind: usize, row: &[u16]) -> bool
+    ensures { λ r. ⌜ r ≡ entryRow kind (now (row .entry)) ⌝ }
 {
     if row.len() != 128 {
         return false;
@@ -98,4 +100,103 @@ pub fn row_ok(kind: usize, row: &[u16]) -> bool
     let c = wide(row[1]);
     let d = wide(row[2]);
     parts_ok(kind, mode, c, d, &row[3..])
+}
+
+// Whether this is the row that an all-default set has for kind 0.
+fn flag_row(row: &[u16]) -> bool
+    ensures { λ r. ⌜ r ≡ flagRow (now (row .entry)) ⌝ }
+{
+    if row.len() != 128 {
+        return false;
+    }
+    if row[126] != 1 {
+        return false;
+    }
+    if !all_zero(&row[..126]) {
+        return false;
+    }
+    all_zero(&row[127..])
+}
+
+// Whether some reading writes this row for this kind.
+pub fn row_allowed(kind: usize, row: &[u16]) -> bool
+    ensures { λ r. ⌜ r ≡ rowAllowed kind (now (row .entry)) ⌝ }
+{
+    if kind > 16 {
+        return false;
+    }
+    if entry_row(kind, row) {
+        return true;
+    }
+    if kind > 0 {
+        return false;
+    }
+    flag_row(row)
+}
+
+// How many modes are 0 before the first that isn't.
+fn zero_modes(rows: &[u16]) -> usize
+    requires { ⌜ length (now rows) ≡ 2176 ⌝ }
+    ensures { λ r. ⌜ r ≡ before (λ kind. eqb (modeAt (now (rows .entry)) kind) 0) 17 ⌝ }
+{
+    let mut kind = 0;
+    while kind < 17 {
+        if rows[kind * 128] != 0 {
+            return kind;
+        }
+        kind += 1;
+    }
+    kind
+}
+
+// How many rows are allowed before the first that isn't.
+fn allowed_rows(rows: &[u16]) -> usize
+    requires { ⌜ length (now rows) ≡ 2176 ⌝ }
+    ensures { λ r. ⌜ r ≡ before (λ kind. rowAllowed kind (rowAt (now (rows .entry)) kind)) 17 ⌝ }
+{
+    let mut kind = 0;
+    while kind < 17 {
+        let at = kind * 128;
+        let end = at + 128;
+        if !row_allowed(kind, &rows[at..end]) {
+            return kind;
+        }
+        kind += 1;
+    }
+    kind
+}
+
+// The first kind whose row is at fault, and 17 where none is.
+fn row_fault(rows: &[u16]) -> usize
+    requires { ⌜ length (now rows) ≡ 2176 ⌝ }
+    ensures { λ r. ⌜ r ≡ rowFault (now (rows .entry)) ⌝ }
+{
+    if rows[126] != 1 {
+        return allowed_rows(rows);
+    }
+    if zero_modes(rows) < 17 {
+        return 0;
+    }
+    allowed_rows(rows)
+}
+
+// What the ROW check of a set says: document 01's DONE (0), LENT (1) or ROW (6).
+pub enum RowCheck {
+    Done,
+    Lent,
+    Row { kind: usize },
+}
+
+// Whether some readings write these 17 rows.
+pub fn check_rows(rows: &[u16]) -> RowCheck
+    ensures { λ r. ⌜ r ≡ checkRows (now (rows .entry)) ⌝ }
+{
+    if rows.len() != 2176 {
+        return RowCheck::Lent;
+    }
+    let kind = row_fault(rows);
+    if kind < 17 {
+        return RowCheck::Row { kind };
+    }
+    RowCheck::Done
 }

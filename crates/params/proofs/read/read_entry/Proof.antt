@@ -3,7 +3,8 @@ use mathlib.Core.Path.{_≡_, refl, sym, ap, _∙_}
 use borrow.Author.Tests.{not-true, not-false}
 use native.Mathlib.Omega.{arith}
 use Rattle.bitstream.proofs.Laws.{value-lt}
-use Rattle.params.specs.Row.{hand, slotOf, bandLists, lists, fixed}
+use Rattle.params.specs.Row.{bandLists, lists, fixed}
+use Rattle.params.specs.Steps.{hand, slotOf}
 use Rattle.params.proofs.RowLaws.{entry-short, entry-mode, entry-on, shape-fits}
 use borrow.Author.Needs.{needs}
 use Rattle.params.proofs.read.read_entry.Statement.{statement}

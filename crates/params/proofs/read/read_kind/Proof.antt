@@ -1,7 +1,7 @@
 -- `params::read::read_kind` meets its contract: by the step that `read_entry` came to. Assumes nothing.
 use mathlib.Core.Path.{_≡_, sym, ap, _∙_}
 use Rattle.params.specs.declared.read.Step.{Step}
-use Rattle.params.specs.Row.{hand}
+use Rattle.params.specs.Steps.{hand}
 use Rattle.params.specs.Header.{kindIs}
 use Rattle.params.proofs.SetLaws.{kind-raw, kind-done}
 use borrow.Author.Needs.{needs}

@@ -3,7 +3,8 @@ use mathlib.Core.Path.{_≡_, refl, sym, ap, _∙_}
 use native.Mathlib.Omega.{arith}
 use Rattle.bitstream.proofs.Laws.{value-lt}
 use Rattle.params.specs.declared.read.Step.{Step}
-use Rattle.params.specs.Row.{hand, slotOf, bandList}
+use Rattle.params.specs.Row.{bandList}
+use Rattle.params.specs.Steps.{hand, slotOf}
 use Rattle.params.proofs.RowLaws.{list-short, list-on, stopped-list}
 use borrow.Author.Needs.{needs}
 use Rattle.params.proofs.read.read_list.Statement.{statement}

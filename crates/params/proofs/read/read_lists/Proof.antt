@@ -4,7 +4,8 @@ use Prim.Native.Nat.{_≤_, _+_, _-_, _*_}
 use native.Mathlib.Omega.{arith}
 use native.Mathlib.Nat.{sub-zero}
 use borrow.Author.Needs.{needs}
-use Rattle.params.specs.Row.{hand, slotOf, bandList, bandLists}
+use Rattle.params.specs.Row.{bandList, bandLists}
+use Rattle.params.specs.Steps.{hand, slotOf}
 use Rattle.params.proofs.RowLaws.{lists-step, lists-none}
 use Rattle.params.proofs.read.read_lists.Statement.{statement}
 use Rattle.params.proofs.read.read_lists.Tie as tie

@@ -6,7 +6,8 @@ use borrow.Author.Needs.{needs}
 use Rattle.params.proofs.RowLaws.{stopped-slot, stopped-numbers, numbers-step, numbers-none}
 use native.Mathlib.Nat.{sub-zero}
 use Rattle.params.specs.declared.read.Step.{Step}
-use Rattle.params.specs.Row.{hand, slotOf, number, numbers}
+use Rattle.params.specs.Row.{number, numbers}
+use Rattle.params.specs.Steps.{hand, slotOf}
 use Rattle.params.proofs.read.read_numbers.Statement.{statement}
 use Rattle.params.proofs.read.read_numbers.Tie as tie
 

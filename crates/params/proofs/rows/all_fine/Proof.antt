@@ -5,8 +5,8 @@ use native.Mathlib.Omega.{arith}
 use borrow.Author.Needs.{needs}
 use borrow.Author.Tests.{eq-eqb, ne-eqb}
 use lib.ListN.{length, drop, getD, drop-of-length-le}
-use Rattle.params.specs.Valid.{allFine}
-use Rattle.params.proofs.ValidLaws.{fine-stop, fine-go}
+use Rattle.params.specs.Allowed.{allFine}
+use Rattle.params.proofs.AllowedLaws.{fine-stop, fine-go}
 use Rattle.params.proofs.rows.all_fine.Statement.{statement}
 use Rattle.params.proofs.rows.all_fine.Tie as tie
 

@@ -5,8 +5,8 @@ use native.Mathlib.Omega.{arith}
 use borrow.Author.Needs.{needs}
 use borrow.Author.Tests.{eq-eqb, ne-eqb}
 use lib.ListN.{length, drop, getD, drop-of-length-le}
-use Rattle.params.specs.Valid.{allZero}
-use Rattle.params.proofs.ValidLaws.{zero-stop, zero-go}
+use Rattle.params.specs.Allowed.{allZero}
+use Rattle.params.proofs.AllowedLaws.{zero-stop, zero-go}
 use Rattle.params.proofs.rows.all_zero.Statement.{statement}
 use Rattle.params.proofs.rows.all_zero.Tie as tie
 

@@ -8,8 +8,8 @@ use lib.ListN.{length, take, drop, length-drop}
 use lib.Seq.{length-take-le, take-all}
 use lib.Dec.{leb}
 use Rattle.params.specs.Row.{fixed, lists, allowed}
-use Rattle.params.specs.Valid.{allFine, allZero, countOk}
-use Rattle.params.proofs.ValidLaws.{and-go, and-no, counts-fit}
+use Rattle.params.specs.Allowed.{allFine, allZero, countOk}
+use Rattle.params.proofs.AllowedLaws.{and-go, and-no, counts-fit}
 use borrow.Author.Needs.{needs}
 use Rattle.params.proofs.rows.parts_ok.Statement.{statement}
 use Rattle.params.proofs.rows.parts_ok.Tie as tie
