@@ -1,6 +1,6 @@
 -- The laws of the record over the flat rows. Assumes nothing.
 use mathlib.Core.Path.{_≡_, refl, sym, ap, _∙_, subst, subst⁻¹}
-use mathlib.Core.List.{List, [], _∷_, _++_, append-assoc}
+use mathlib.Core.List.{List, [], _∷_, _++_, append-assoc, append-nil}
 use mathlib.Core.Bool.{Bool, true, false}
 use Prim.Native.Nat.{ℕ, zero, suc, _+_, _*_, _-_, _≤_, _<_}
 use native.Mathlib.Nat.{not-suc-le-zero}
@@ -17,7 +17,7 @@ use Rattle.record.specs.Text.{bytes}
 use Rattle.record.specs.Number.{both, isDigit, number}
 use Rattle.record.specs.Half.{half}
 use Rattle.record.specs.Record.{Entry, header, digit, items, line, numberCount, entry, parts}
-use Rattle.record.specs.Rows.{Row, slots, rowOf, entryOf, rowFormat, rowFormats, Rows, kindLines, rowsFormat}
+use Rattle.record.specs.Rows.{Row, slots, rowOf, entryOf, rowFormat, rowFormats, allKinds, Rows, kindLines, rowsFormat}
 use Rattle.record.specs.Flat.{Flat, joinRows, samplesOf, cutRows, flatOf, rowsOf, flatFormat}
 use Rattle.record.proofs.Laws.{via-lawful}
 use Rattle.record.proofs.Numbers.{T-both}
@@ -57,7 +57,7 @@ slots-short k e o =
     let n : length (e .1 .1 .0) ≡ numberCount (e .0) (e .1 .0) = line-length (bytes "numbers=") 0 half (numberCount (e .0) (e .1 .0)) (e .1 .1 .0) (p .1 .0) in
     omega (arith, n, fixed-small (e .0), line-small (lists (e .0)) (e .1 .0) 0 (p .0), line-small (lists (e .0)) (e .1 .0) 1 (p .0))
 
-abbrev Good : Row → Type 0
+abbrev pub Good : Row → Type 0
 Good r = (length (r .0) ≡ 128) × (getD (r .0) 126 0 ≡ 0)
 
 padded-good : (l : List ℕ) → length l ≤ 126 → (length (l ++ replicate (128 - length l) 0) ≡ 128) × (getD (l ++ replicate (128 - length l) 0) 126 0 ≡ 0)
@@ -73,11 +73,11 @@ row-good : (k : ℕ) (r : Row) → rowFormat k .Ok r → Good r
 unfolding rowFormat
 row-good k r o = subst Good (o .1) (padded-good (slots (entryOf r)) (slots-short k (entryOf r) (o .0)))
 
-data Goods : List Row → Type 0 where
+pub data Goods : List Row → Type 0 where
   none : Goods []
   more : {r : Row} {rs : List Row} → Good r → Goods rs → Goods (r ∷ rs)
 
-rows-good : (k n : ℕ) (l : List Row) → seqs ([], []) (rowFormats k n) .Ok l → Goods l
+pub rows-good : (k n : ℕ) (l : List Row) → seqs ([], []) (rowFormats k n) .Ok l → Goods l
 rows-good k zero l o = subst⁻¹ Goods o none
 rows-good k (suc n) l o = subst Goods (o .1) (more (row-good k (uncons ([], []) l .0) (o .0 .0)) (rows-good (k + 1) n (uncons ([], []) l .1) (o .0 .1)))
 
@@ -109,10 +109,18 @@ slot-zero (more {r = r} {rs = rs} g gs) =
 flag-of : (p : Rows) → getD (flatOf p .0) 126 0 ≡ p .0
 flag-of p = getD-set-same (filled (p .1)) 126 (p .0) 0 (filled-long (p .1))
 
-small-flag : (d : ℕ) → digit (λ x. leb x 1) .Ok d → d ≤ 1
+pub small-flag : (d : ℕ) → digit (λ x. leb x 1) .Ok d → d ≤ 1
 small-flag d o =
     let t : (isDigit (48 + d) ≡ true) × (leb (48 + d - 48) 1 ≡ true) = T-both (isDigit (48 + d)) (leb (48 + d - 48) 1) (isTrue (both (isDigit (48 + d)) (leb (48 + d - 48) 1)) (o .0)) in
     omega (arith, leb-true (48 + d - 48) 1 (t .1))
+
+pub all-good : (l : List Row) → allKinds .Ok l → Goods l
+unfolding allKinds
+all-good l o = rows-good 0 17 l o
+
+pub all-count : (l : List Row) → allKinds .Ok l → length l ≡ 17
+unfolding allKinds
+all-count l o = seqs-length ([], []) (rowFormats 0 17) l o
 
 rows-back : (p : Rows) → p .0 ≤ 1 → kindLines (p .0) .Ok (p .1) → cutRows (flatOf p .0) (samplesOf (p .1)) ≡ p .1
 unfolding kindLines
@@ -123,10 +131,22 @@ rows-back p h o = go (ℕ-discrete (p .0) 1)
         let q : p .1 ≡ [] = rw (eq-eqb (p .0) 1 e) at o in
         ap (λ (rs : List Row). cutRows (flatOf p .0) (samplesOf rs)) q ∙ sym q
     go (no e) =
-        let g : Goods (p .1) = rows-good 0 17 (p .1) (rw (ne-eqb (p .0) 1 e) at o) in
+        let g : Goods (p .1) = all-good (p .1) (rw (ne-eqb (p .0) 1 e) at o) in
         let z : p .0 ≡ getD (filled (p .1)) 126 0 = (let y : getD (filled (p .1)) 126 0 ≡ 0 = slot-zero g in omega (arith, y)) in
         let s : flatOf p .0 ≡ filled (p .1) = ap (set (filled (p .1)) 126) z ∙ set-getD (filled (p .1)) 126 0 in
         ap (λ (l : List ℕ). cutRows l (samplesOf (p .1))) s ∙ cut-back g (replicate (2176 - length (joinRows (p .1))) 0)
+
+-- rows that are good are 128 numbers each
+pub joined-length : {rs : List Row} → Goods rs → length (joinRows rs) ≡ length rs * 128
+joined-length none = refl
+joined-length (more {r = r} {rs = rs} g gs) = omega (arith, length-append (r .0) (joinRows rs), g .0, joined-length gs)
+
+-- a set that is not all default is its 17 rows
+pub flat-rows : (d : ℕ) (rs : List Row) → d ≡ 0 → Goods rs → length rs ≡ 17 → flatOf (d, rs) .0 ≡ joinRows rs
+flat-rows d rs h g l =
+    let z : d ≡ getD (filled rs) 126 0 = h ∙ sym (slot-zero g) in
+    let n : 2176 - length (joinRows rs) ≡ 0 = omega (arith, joined-length g, l) in
+    ap (set (filled rs) 126) z ∙ set-getD (filled rs) 126 0 ∙ ap (λ (i : ℕ). joinRows rs ++ replicate i 0) n ∙ append-nil (joinRows rs)
 
 flat-back : (p : Rows) → rowsFormat .Ok p → rowsOf (flatOf p) ≡ p
 unfolding rowsFormat

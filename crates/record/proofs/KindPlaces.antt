@@ -1,5 +1,5 @@
 -- What a loop over the kinds goes by: each entry is read by its own format and stored by its own store, into any state (the rows and the samples).
--- No function cites it yet: it is the law for `rowFormats` of the whole record. Assumes nothing.
+-- Assumes nothing.
 use mathlib.Core.Path.{_≡_, refl, sym, ap, _∙_, subst, subst⁻¹}
 use mathlib.Core.List.{List, [], _∷_, _++_}
 use Prim.Native.Nat.{ℕ, zero, suc, _+_, _-_, _≤_, _<_}

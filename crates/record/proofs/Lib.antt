@@ -19,3 +19,5 @@ pub mod FlatLaws
 pub mod Framed
 pub mod LinePlaces
 pub mod PartPlaces
+pub mod WalkPlaces
+pub mod ReadPlaces

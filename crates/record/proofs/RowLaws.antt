@@ -14,7 +14,7 @@ use Rattle.record.specs.Text.{bytes}
 use Rattle.record.specs.Number.{number}
 use Rattle.record.specs.Half.{half}
 use Rattle.record.specs.Record.{Entry, header, items, line, numberCount, entry, modeLines, parts}
-use Rattle.record.specs.Rows.{Row, slots, rowOf, countsOf, entryOf, rowFormat, rowFormats, Rows, kindLines, rowsFormat}
+use Rattle.record.specs.Rows.{Row, slots, rowOf, countsOf, entryOf, rowFormat, rowFormats, allKinds, Rows, kindLines, rowsFormat}
 use Rattle.record.proofs.Laws.{All, none, more, nothing-lawful, then-lawful, via-lawful, seqs-lawful}
 use Rattle.record.proofs.Records.{header-lawful, entry-lawful}
 
@@ -65,17 +65,21 @@ pub row-lawful : (k : ℕ) → Lawful (rowFormat k)
 unfolding rowFormat
 row-lawful k = via-lawful rowOf entryOf (entry k) (row-back k) (entry-lawful k)
 
-rows-all : (k n : ℕ) → All (rowFormats k n)
+pub rows-all : (k n : ℕ) → All (rowFormats k n)
 rows-all k zero = none
 rows-all k (suc n) = more (row-lawful k) (rows-all (k + 1) n)
+
+pub all-lawful : Lawful allKinds
+unfolding allKinds
+all-lawful = seqs-lawful ([], []) (rows-all 0 17)
 
 pub kinds-lawful : (d : ℕ) → Lawful (kindLines d)
 unfolding kindLines
 kinds-lawful d = go (eqb d 1)
   where
-    go : (v : Bool) → Lawful (pick v (nothing []) (seqs ([], []) (rowFormats 0 17)))
+    go : (v : Bool) → Lawful (pick v (nothing []) allKinds)
     go true = nothing-lawful []
-    go false = seqs-lawful ([], []) (rows-all 0 17)
+    go false = all-lawful
 
 pub rows-lawful : Lawful rowsFormat
 unfolding rowsFormat

@@ -8,6 +8,8 @@ use lib.Seq.{sets}
 use Rattle.transform.specs.Kinds.{startOf}
 use Rattle.record.specs.Record.{Entry}
 use Rattle.record.specs.Rows.{Row}
+use Rattle.record.specs.Flat.{Flat, joinRows, samplesOf}
+use Rattle.record.specs.Description.{storeParts}
 use Rattle.record.specs.Format.{Answer, got, bad, Format}
 use Rattle.record.specs.declared.piece.Num.{Num}
 use Rattle.record.specs.declared.piece.Num.the-variants.{Got, Bad}
@@ -53,3 +55,10 @@ EntryStored kind row row' arena arena' e = PartsStored kind (set row 0 (e .0)) r
 
 abbrev pub RowStored : ℕ → List ℕ → List ℕ → List ℤ → List ℤ → Row → Type 0
 RowStored kind rows rows' arena arena' r = (rows' ≡ sets rows (kind * 128) (r .0)) × (arena' ≡ sets arena (startOf kind) (r .1))
+
+-- what all kinds leave behind, and a whole record
+abbrev pub SetStored : List ℕ → List ℕ → List ℤ → List ℤ → List Row → Type 0
+SetStored rows rows' arena arena' rs = (rows' ≡ sets rows 0 (joinRows rs)) × (arena' ≡ storeParts 0 (samplesOf rs) arena)
+
+abbrev pub FlatStored : List ℕ → List ℤ → List ℤ → Flat → Type 0
+FlatStored rows' arena arena' f = (rows' ≡ f .0) × (arena' ≡ storeParts 0 (f .1) arena)

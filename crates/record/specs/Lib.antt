@@ -5,4 +5,6 @@ pub mod Half
 pub mod Record
 pub mod Rows
 pub mod Flat
+pub mod Description
+pub mod Replies
 pub mod Answers

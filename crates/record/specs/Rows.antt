@@ -36,12 +36,18 @@ abbrev pub rowFormats : ℕ → ℕ → List (Format Row)
 rowFormats k zero = []
 rowFormats k (suc n) = rowFormat k ∷ rowFormats (k + 1) n
 
+-- those of all 17 kinds
+unfoldable pub allKinds : Format (List Row)
+unfolding rowFormat
+allKinds = seqs ([], []) (rowFormats 0 17)
+
 -- a description: the first line's flag, and the 17 rows where it is not 1
 abbrev pub Rows : Type 0
 Rows = ℕ × List Row
 
 unfoldable pub kindLines : ℕ → Format (List Row)
-kindLines d = pick (eqb d 1) (nothing []) (seqs ([], []) (rowFormats 0 17))
+unfolding allKinds
+kindLines d = pick (eqb d 1) (nothing []) allKinds
 
 unfoldable pub rowsFormat : Format Rows
 unfolding kindLines

@@ -145,7 +145,7 @@ fn entry_at(s: &[u8], at: usize, kind: usize, row: &mut [u16], arena: &mut [i32]
 }
 
 // The numbers w from a place on, as far as there is room.
-fn put_numbers(out: &mut [u16], at: usize, w: &[u16])
+pub(crate) fn put_numbers(out: &mut [u16], at: usize, w: &[u16])
     requires { ⌜ at + length (now w) < 4294967296 ⌝ }
     ensures { λ r. ⌜ now (out .exit) ≡ sets (now (out .entry)) at (now (w .entry)) ⌝ }
 {

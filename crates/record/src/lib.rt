@@ -3,3 +3,9 @@ mod fixed;
 mod kinds;
 mod piece;
 mod put;
+mod reader;
+mod writer;
+
+pub use reader::Taken;
+pub use reader::read_record;
+pub use writer::Written;
