@@ -69,7 +69,7 @@ padded-good l h =
           ∙ getD-replicate (128 - length l) (126 - length l) 0 0 (omega arith),
     )
 
-row-good : (k : ℕ) (r : Row) → rowFormat k .Ok r → Good r
+pub row-good : (k : ℕ) (r : Row) → rowFormat k .Ok r → Good r
 unfolding rowFormat
 row-good k r o = subst Good (o .1) (padded-good (slots (entryOf r)) (slots-short k (entryOf r) (o .0)))
 

@@ -21,3 +21,7 @@ pub mod LinePlaces
 pub mod PartPlaces
 pub mod WalkPlaces
 pub mod ReadPlaces
+pub mod OkLaws
+pub mod LineStores
+pub mod KindStores
+pub mod SetStores

@@ -8,3 +8,4 @@ pub mod Flat
 pub mod Description
 pub mod Replies
 pub mod Answers
+pub mod Stored

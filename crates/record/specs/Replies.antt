@@ -8,7 +8,7 @@ use lib.Dec.{eqb, ltb}
 use Rattle.params.specs.Allowed.{rowFault}
 use Rattle.record.specs.Format.{pick, Reading, done, text, whole}
 use Rattle.record.specs.Flat.{Flat, flatFormat}
-use Rattle.record.specs.Description.{anyRaw, recordOf, storeParts}
+use Rattle.record.specs.Description.{anyRaw, lentFault, recordOf, storeParts}
 use Rattle.record.specs.declared.reader.Taken as taken
 use Rattle.record.specs.declared.reader.Taken.the-variants as takes
 use Rattle.record.specs.declared.writer.Written as written
@@ -30,18 +30,14 @@ takenReply (takes.Text length) = 10 ∷ length ∷ []
 
 -- ---- writing
 
--- LENT: rows other than 2,176; samples other than 394,752, or none where no row is raw
-abbrev pub writeLent : List ℕ → List ℤ → Bool
-writeLent rows samples = not (eqb (length rows) 2176 && (eqb (length samples) 394752 || (eqb (length samples) 0 && not (anyRaw rows))))
-
 -- a record of this length for a buffer of that
 abbrev pub fitted : ℕ → ℕ → written.Written
 fitted n room = pick (ltb room n) (writes.Room n) (writes.Done n)
 
 unfoldable pub writeAnswer : List ℕ → List ℤ → ℕ → written.Written
-unfolding anyRaw recordOf rowFault
+unfolding lentFault recordOf rowFault
 writeAnswer rows samples room =
-    pick (writeLent rows samples) writes.Lent
+    pick (lentFault rows samples) writes.Lent
     (pick (ltb (rowFault rows) 17) (writes.Row (rowFault rows)) (fitted (length (recordOf rows samples)) room))
 
 -- the record at the beginning and behind it what was there, or all as it was

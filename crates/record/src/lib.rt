@@ -9,3 +9,4 @@ mod writer;
 pub use reader::Taken;
 pub use reader::read_record;
 pub use writer::Written;
+pub use writer::write_record;

@@ -1,13 +1,13 @@
 // The pieces of a record's text, stored from a place on as far as there is room.
 use crate::piece::end_of;
 ghost use mathlib.Core.Path.{_≡_};
-ghost use Prim.Native.Nat.{_+_, _*_, _<_};
+ghost use Prim.Native.Nat.{_+_, _*_, _≤_, _<_};
 ghost use lib.ListN.{length, set};
 ghost use lib.Seq.{sets};
 ghost use lib.IntN.{pos, natAbs};
-ghost use Rattle.record.specs.Format.{seqs};
-ghost use Rattle.record.specs.Number.{signed, digits};
-ghost use Rattle.record.specs.Record.{items};
+ghost use Rattle.record.specs.Number.{number, signed, digits};
+ghost use Rattle.record.specs.Half.{half, hexByte};
+ghost use Rattle.record.specs.Stored.{Items};
 
 // A store that does nothing past the end.
 pub(crate) fn put_u8(out: &mut [u8], i: usize, v: u8)
@@ -80,11 +80,78 @@ pub(crate) fn put_sample(out: &mut [u8], at: usize, v: i32, end: u8) -> usize
     p + 1
 }
 
+// A band count and the byte behind it.
+fn put_count(out: &mut [u8], at: usize, n: u16, end: u8) -> usize
+    requires { ⌜ at < 4611686018427387904 ⌝ }
+    ensures place { λ r. ⌜ r ≡ at + length (number 16 end .write n) ⌝ }
+    ensures bytes { λ r. ⌜ now (out .exit) ≡ sets (now (out .entry)) at (number 16 end .write n) ⌝ }
+{
+    let p = put_digits(out, at, n as u64);
+    put_u8(out, p, end);
+    p + 1
+}
+
+// A hexadecimal digit.
+fn hex_byte(n: u16) -> u8
+    requires { ⌜ n < 16 ⌝ }
+    ensures { λ r. ⌜ r ≡ hexByte n ⌝ }
+{
+    if n < 10 {
+        return 48 + (n as u8);
+    }
+    87 + (n as u8)
+}
+
+// A half float and the byte behind it.
+fn put_half(out: &mut [u8], at: usize, v: u16, end: u8) -> usize
+    requires { ⌜ at < 4611686018427387904 ⌝ }
+    ensures place { λ r. ⌜ r ≡ at + length (half end .write v) ⌝ }
+    ensures bytes { λ r. ⌜ now (out .exit) ≡ sets (now (out .entry)) at (half end .write v) ⌝ }
+{
+    let line = [
+        hex_byte(v / 4096),
+        hex_byte(v / 256 % 16),
+        hex_byte(v / 16 % 16),
+        hex_byte(v % 16),
+        end,
+    ];
+    put_bytes(out, at, &line)
+}
+
+// The band counts with commas between and a line end behind.
+pub(crate) fn put_counts(src: &[u16], out: &mut [u8], at: usize) -> usize
+    requires { ⌜ at + 4294967296 * length (now src) < 4611686018427387904 ⌝ }
+    ensures { λ r. ⌜ Items 0 (number 16) (now (src .entry)) (now (out .entry)) (now (out .exit)) at r ⌝ }
+{
+    let mut i: usize = 0;
+    let mut p = at;
+    while i < src.len() {
+        let end = end_of(src.len() - i - 1);
+        p = put_count(out, p, src[i], end);
+        i += 1;
+    }
+    p
+}
+
+// The half floats with commas between and a line end behind.
+pub(crate) fn put_halves(src: &[u16], out: &mut [u8], at: usize) -> usize
+    requires { ⌜ at + 4294967296 * length (now src) < 4611686018427387904 ⌝ }
+    ensures { λ r. ⌜ Items 0 half (now (src .entry)) (now (out .entry)) (now (out .exit)) at r ⌝ }
+{
+    let mut i: usize = 0;
+    let mut p = at;
+    while i < src.len() {
+        let end = end_of(src.len() - i - 1);
+        p = put_half(out, p, src[i], end);
+        i += 1;
+    }
+    p
+}
+
 // The samples with commas between and a line end behind.
 pub(crate) fn put_samples(src: &[i32], out: &mut [u8], at: usize) -> usize
     requires { ⌜ at + 4294967296 * length (now src) < 4611686018427387904 ⌝ }
-    ensures place { λ r. ⌜ r ≡ at + length (seqs (pos 0) (items signed (length (now (src .entry)))) .write (now (src .entry))) ⌝ }
-    ensures bytes { λ r. ⌜ now (out .exit) ≡ sets (now (out .entry)) at (seqs (pos 0) (items signed (length (now (src .entry)))) .write (now (src .entry))) ⌝ }
+    ensures { λ r. ⌜ Items (pos 0) signed (now (src .entry)) (now (out .entry)) (now (out .exit)) at r ⌝ }
 {
     let mut i: usize = 0;
     let mut p = at;

@@ -10,7 +10,8 @@ use lib.IntN.{ℤ, pos}
 use lib.ListN.{length, getD}
 use Rattle.record.specs.Number.{signed}
 use Rattle.record.proofs.Stores.{put-length}
-use Rattle.record.proofs.ItemStores.{Wrote, wrote-start, wrote-on, wrote-all, wrote-place, signed-length}
+use Rattle.record.proofs.ItemStores.{Wrote, wrote-start, wrote-on, wrote-place, signed-length}
+use Rattle.record.proofs.LineStores.{items-stored}
 use Rattle.record.proofs.put.put_samples.Statement.{statement}
 use Rattle.record.proofs.put.put_samples.Tie as tie
 use Rattle.record.proofs.put.put_samples.Reads as reads
@@ -65,7 +66,7 @@ same-length : tie.Need-same-length Inv-loop μ-loop
 same-length c = put-length _ _ _ _ _ (c .before .loop .inv .2 .put)
 
 returns : tie.Need-returns Inv-loop μ-loop
-returns c = let x : _ = wrote-all (pos 0) signed _ _ _ _ _ _ (c .before .loop .inv .2) (c .loop-test .left) in (x .place, x .bytes)
+returns c = items-stored (pos 0) signed _ _ _ _ _ _ (c .before .loop .inv .2) (search needs) (c .loop-test .left)
 
 pub put-samples-spec : {M : Type 1} → statement M
 put-samples-spec =
