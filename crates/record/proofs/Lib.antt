@@ -25,3 +25,6 @@ pub mod OkLaws
 pub mod LineStores
 pub mod KindStores
 pub mod SetStores
+pub mod DefaultRows
+pub mod AllowedOk
+pub mod Theorems

@@ -52,7 +52,7 @@ before-passed ok (suc n) k e h = go (λ p l. before-passed ok n k p l) (eqb (bef
     go ih true false p q = absurd (let z : before ok n ≡ suc n = sym (rw (p, q)) ∙ e in omega (arith, before-le ok n, z))
     go ih false b p q = absurd (let z : before ok n ≡ suc n = sym (rw p) ∙ e in omega (arith, before-le ok n, z))
 
-row-first : (rows : List ℕ) (k i : ℕ) → i < 128 → getD (rowAt rows k) i 0 ≡ getD rows (k * 128 + i) 0
+pub row-first : (rows : List ℕ) (k i : ℕ) → i < 128 → getD (rowAt rows k) i 0 ≡ getD rows (k * 128 + i) 0
 row-first rows k i h = getD-take 128 (drop (k * 128) rows) i 0 h ∙ getD-drop (k * 128) rows i 0
 
 -- a row that passes is an entry's, or kind 0's in an all-default set
