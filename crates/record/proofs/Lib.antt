@@ -28,3 +28,4 @@ pub mod SetStores
 pub mod DefaultRows
 pub mod AllowedOk
 pub mod Theorems
+pub mod ReadBack
