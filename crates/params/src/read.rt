@@ -94,7 +94,7 @@ fn read_lists(bytes: &[u8], step: Step, n: usize, row: &mut [u16; 128]) -> Step
     at
 }
 
-pub(crate) fn allows(kind: usize, mode: usize) -> bool
+pub fn allows(kind: usize, mode: usize) -> bool
     ensures { λ r. ⌜ r ≡ allowed kind mode ⌝ }
 {
     if mode == 0 {
@@ -113,9 +113,9 @@ pub(crate) fn allows(kind: usize, mode: usize) -> bool
 }
 
 // By mode: how many numbers come first, and how many band lists after them.
-pub(crate) const FIXED: [usize; 8] = [0, 9, 18, 6, 3, 27, 0, 1];
+pub const FIXED: [usize; 8] = [0, 9, 18, 6, 3, 27, 0, 1];
 
-pub(crate) const LISTS: [usize; 8] = [0, 0, 0, 1, 1, 2, 1, 0];
+pub const LISTS: [usize; 8] = [0, 0, 0, 1, 1, 2, 1, 0];
 
 pub(crate) struct Entry {
     step: Step,

@@ -1,0 +1,147 @@
+-- What the call that reads a record goes by. Assumes nothing.
+use mathlib.Core.Path.{_≡_, refl, sym, ap, _∙_, subst, subst⁻¹}
+use mathlib.Core.List.{List, [], _∷_, _++_}
+use mathlib.Core.Bool.{Bool, true, false, not, _&&_, _||_}
+use Prim.Native.Nat.{ℕ, zero, suc, _+_, _*_, _-_, _≤_, _<_}
+use native.Mathlib.Nat.{zero-add}
+use native.Mathlib.Omega.{arith}
+use borrow.Author.Tests.{eq-eqb, ne-eqb, lt-ltb, le-ltb}
+use lib.IntN.{ℤ}
+use lib.ListN.{length, getD}
+use lib.Dec.{eqb, ltb}
+use Rattle.transform.specs.First.{before}
+use Rattle.transform.proofs.FirstLaws.{before-more, before-stop, before-all}
+use Rattle.params.specs.Allowed.{modeAt}
+use Rattle.record.specs.Format.{Answer, got, bad, Format, pick, Reading, done, text, wholeOf, whole}
+use Rattle.record.specs.declared.piece.Scan as scan
+use Rattle.record.specs.declared.piece.Scan.the-variants as scans
+use Rattle.record.specs.declared.reader.Taken as taken
+use Rattle.record.specs.declared.reader.Taken.the-variants as takes
+use Rattle.record.specs.Flat.{Flat, flatFormat}
+use Rattle.record.specs.Description.{isRaw, anyRaw, storeParts}
+use Rattle.record.specs.Replies.{readLent, readIs, readAnswer, rowsLeft, samplesLeft, rowsAfter, samplesAfter}
+use Rattle.record.specs.Answers.{shift, readAt, seen, FlatStored}
+use Rattle.record.proofs.Framed.{seen-got, seen-bad}
+
+-- ---- any_raw
+
+abbrev pub noRaw : List ℕ → ℕ → Bool
+noRaw rows kind = not (isRaw rows kind)
+
+module _ (rows : List ℕ) (kind : ℕ) (inv : before (noRaw rows) kind ≡ kind) where
+  pub raw-here : kind < 17 → getD rows (kind * 128) 0 ≡ 7 → true ≡ anyRaw rows
+  unfolding anyRaw
+  raw-here h e =
+      let t : noRaw rows kind ≡ false = rw (eq-eqb (getD rows (kind * 128) 0) 7 e) in
+      sym (lt-ltb (before (noRaw rows) 17) 17 (subst⁻¹ (λ (i : ℕ). i < 17) (before-stop (noRaw rows) kind 17 inv t h) h))
+
+  pub raw-on : (getD rows (kind * 128) 0 ≡ 7 → ⊥) → before (noRaw rows) (kind + 1) ≡ kind + 1
+  raw-on h = before-more (noRaw rows) kind inv (rw (ne-eqb (getD rows (kind * 128) 0) 7 h))
+
+  pub raw-none : kind ≤ 17 → 17 ≤ kind → false ≡ anyRaw rows
+  unfolding anyRaw
+  raw-none h l = sym (le-ltb (before (noRaw rows) 17) 17 (omega (arith, before-all (noRaw rows) kind 17 inv h l)))
+
+pub raw-start : (rows : List ℕ) → before (noRaw rows) 0 ≡ 0
+unfolding before
+raw-start rows = refl
+
+-- ---- is_lent, no_room
+
+module _ (n l : ℕ) where
+  pub lent-rows : (n ≡ 2176 → ⊥) → true ≡ readLent n l
+  lent-rows h = rw (ne-eqb n 2176 h)
+
+  pub lent-full : n ≡ 2176 → l ≡ 394752 → false ≡ readLent n l
+  lent-full h k = rw (eq-eqb n 2176 h, eq-eqb l 394752 k)
+
+  pub lent-other : n ≡ 2176 → (l ≡ 394752 → ⊥) → not (eqb l 0) ≡ readLent n l
+  lent-other h k = rw (eq-eqb n 2176 h, ne-eqb l 394752 k)
+
+  pub lent-long : false ≡ readLent n l → n ≡ 2176
+  lent-long e = go (native.Mathlib.Decide.ℕ-discrete n 2176)
+    where
+      go : Dec (n ≡ 2176) → n ≡ 2176
+      go (yes h) = h
+      go (no h) = absurd (let q : false ≡ true = e ∙ sym (lent-rows h) in let z : _≡_ {A = ℕ} 0 1 = cc in omega arith)
+
+pub room-raw : (rows : List ℕ) (l : ℕ) (b : Bool) → b ≡ anyRaw rows → b ≡ true → eqb l 0 ≡ (anyRaw rows && eqb l 0)
+room-raw rows l b e k = rw (sym e, k)
+
+pub room-none : (rows : List ℕ) (l : ℕ) (b : Bool) → b ≡ anyRaw rows → b ≡ false → false ≡ (anyRaw rows && eqb l 0)
+room-none rows l b e k = rw (sym e, k)
+
+-- ---- read_record
+
+at-start : {A : Type 0} (F : Format A) (s : List ℕ) → readAt F s 0 ≡ F .read s
+unfolding readAt
+at-start {A} F s = go (F .read s)
+  where
+    go : (r : Answer A) → shift 0 r ≡ r
+    go (got a n) = ap (got a) (zero-add n)
+    go (bad n) = ap bad (zero-add n)
+
+-- a part of no elements, lent and given back, leaves the whole as it was
+pub none-before : {A : Type 0} (e x : List A) → length e ≡ 0 → e ++ x ≡ x
+none-before [] x h = refl
+none-before (a ∷ e) x h = absurd (let q : suc (length e) ≡ 0 = h in omega arith)
+
+module _ (rows : List ℕ) (samples : List ℤ) (s : List ℕ) where
+  -- what the call owes
+  abbrev Owes : taken.Taken → List ℕ → List ℤ → Type 0
+  Owes r rows' samples' = (r ≡ readAnswer (length rows) (length samples) s) × ((rows' ≡ rowsAfter rows (length samples) s) × (samples' ≡ samplesAfter (length rows) samples s))
+
+  owes-kept : (r : taken.Taken) (samples' : List ℤ) → readAnswer (length rows) (length samples) s ≡ r → ((x : Reading Flat) → rowsLeft r x rows ≡ rows) → ((x : Reading Flat) → samplesLeft r x samples ≡ samples) → samples' ≡ samples → Owes r rows samples'
+  unfolding rowsAfter samplesAfter
+  owes-kept r samples' e f g h = (
+    sym e,
+    (
+      sym (ap (λ (y : taken.Taken). rowsLeft y (whole flatFormat s) rows) e ∙ f (whole flatFormat s)),
+      h ∙ sym (ap (λ (y : taken.Taken). samplesLeft y (whole flatFormat s) samples) e ∙ g (whole flatFormat s)),
+    ),
+  )
+
+  pub read-lent : (b : Bool) → b ≡ readLent (length rows) (length samples) → b ≡ true → Owes takes.Lent rows samples
+  unfolding readAnswer
+  read-lent b e k = owes-kept takes.Lent samples (rw (sym e, k)) (λ x. refl) (λ x. refl) refl
+
+  module _ (b : Bool) (e : b ≡ readLent (length rows) (length samples)) (k : b ≡ false) (r : scan.Scan) (g : r ≡ seen (readAt flatFormat s 0)) where
+    answer-is : (x : Reading Flat) → whole flatFormat s ≡ x → readAnswer (length rows) (length samples) s ≡ readIs (length samples) x
+    unfolding readAnswer
+    answer-is x h = rw (sym e, k) (ap (readIs (length samples)) h)
+
+    pub read-bad : (q : ℕ) (samples' : List ℤ) → r ≡ scans.Bad q → samples' ≡ samples → Owes (takes.Text q) rows samples'
+    read-bad q samples' j h =
+        owes-kept (takes.Text q) samples' (answer-is (text q) (ap (wholeOf (length s)) (sym (at-start flatFormat s) ∙ seen-bad (readAt flatFormat s 0) r q g j))) (λ x. refl) (λ x. refl) h
+
+    module _ (q : ℕ) (j : r ≡ scans.Got q) where
+      value : (f : Flat) × (readAt flatFormat s 0 ≡ got f q)
+      value = seen-got (readAt flatFormat s 0) r q g j
+
+      reading : whole flatFormat s ≡ pick (ltb q (length s)) (text q) (done (value .0))
+      reading = ap (wholeOf (length s)) (sym (at-start flatFormat s) ∙ value .1)
+
+      pub read-more : (samples' : List ℤ) → q < length s → samples' ≡ samples → Owes (takes.Text q) rows samples'
+      read-more samples' l h = owes-kept (takes.Text q) samples' (answer-is (text q) (reading ∙ rw (lt-ltb q (length s) l))) (λ x. refl) (λ x. refl) h
+
+      module _ (l : length s ≤ q) (first : List ℕ) (a a' : List ℤ) (st : (f : Flat) (q : ℕ) → readAt flatFormat s 0 ≡ got f q → FlatStored first a a' f) (c : Bool) (i : c ≡ (anyRaw first && eqb (length samples) 0)) where
+        finished : whole flatFormat s ≡ done (value .0)
+        finished = reading ∙ rw (le-ltb q (length s) l)
+
+        answered : readAnswer (length rows) (length samples) s ≡ pick c (takes.Room 394752) takes.Done
+        answered = answer-is (done (value .0)) finished ∙ ap (λ (t : Bool). pick t (takes.Room 394752) takes.Done) (sym (i ∙ ap (λ (x : List ℕ). anyRaw x && eqb (length samples) 0) (st (value .0) q (value .1) .0)))
+
+        pub read-room : (samples' : List ℤ) → c ≡ true → samples' ≡ samples → Owes (takes.Room 394752) rows samples'
+        read-room samples' z h = owes-kept (takes.Room 394752) samples' (answered ∙ ap (λ (t : Bool). pick t (takes.Room 394752) takes.Done) z) (λ x. refl) (λ x. refl) h
+
+        pub read-done : c ≡ false → (rows' : List ℕ) (samples₁ samples' : List ℤ) → samples₁ ≡ samples → ((f : Flat) (q : ℕ) → readAt flatFormat s 0 ≡ got f q → FlatStored rows' samples₁ samples' f) → Owes takes.Done rows' samples'
+        unfolding rowsAfter samplesAfter
+        read-done z rows' samples₁ samples' h st₂ =
+            let n : readAnswer (length rows) (length samples) s ≡ takes.Done = answered ∙ ap (λ (t : Bool). pick t (takes.Room 394752) takes.Done) z in
+            let w : FlatStored rows' samples₁ samples' (value .0) = st₂ (value .0) q (value .1) in (
+              sym n,
+              (
+                w .0 ∙ sym (λ t. rowsLeft (n t) (finished t) rows),
+                w .1 ∙ ap (storeParts 0 (value .0 .1)) h ∙ sym (λ t. samplesLeft (n t) (finished t) samples),
+              ),
+            )

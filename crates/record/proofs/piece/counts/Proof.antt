@@ -1,0 +1,97 @@
+-- `record::piece::counts` meets its contract: the loop of `ItemPlaces`, over band counts. Assumes nothing.
+use mathlib.Core.Path.{_≡_, refl, sym, ap, _∙_, subst, subst⁻¹}
+use mathlib.Core.List.{List}
+use Prim.Native.Nat.{ℕ, _+_, _-_, _≤_, _<_}
+use native.Mathlib.Omega.{arith}
+use borrow.Author.Needs.{needs}
+use lib.ListN.{length}
+use Rattle.record.specs.Number.{number}
+use Rattle.record.proofs.Numbers.{number-lawful}
+use Rattle.record.proofs.Records.{end-small}
+use Rattle.record.proofs.SignPlaces.{number-limit}
+use Rattle.record.proofs.Positions.{read-within}
+use Rattle.record.proofs.ItemPlaces.{Listed, listed-start, listed-on, listed-seen, listed-stored, listed-refused, listed-length, turn-bad, turn-got, num-got, num-bad}
+use Rattle.record.proofs.piece.counts.Statement.{statement}
+use Rattle.record.proofs.piece.counts.Tie as tie
+use Rattle.record.proofs.piece.counts.Reads as reads
+use Rattle.record.proofs.piece.counts.Lts as lts
+use Rattle.record.proofs.piece.end_of.Reads as end-of-reads
+use Rattle.record.proofs.piece.number_at.Reads as number-at-reads
+use Rattle.record.proofs.piece.put_u16.Reads as put-u16-reads
+
+abbrev Inv-loop : tie.InvT-loop
+Inv-loop s at n out₀ place left₀ p₀ j₀ out left p j = (place + n < 4294967296) × Listed 0 (number 16) s at n out₀ place out left p j
+
+abbrev μ-loop : tie.MeasureT-loop
+μ-loop s at n out₀ place left₀ p₀ j₀ out left p j = left
+
+loop-holds : tie.Need-loop-holds Inv-loop μ-loop
+loop-holds c = (search needs, listed-start 0 (number 16) _ _ _ _ _ (search needs))
+
+sub-left : tie.Need-sub-left Inv-loop μ-loop
+sub-left c = search needs
+
+end-of-requires : tie.Need-end-of-requires Inv-loop μ-loop
+end-of-requires c κs = search needs
+
+number-at-requires : tie.Need-number-at-requires Inv-loop μ-loop
+number-at-requires c κs = (c .before .before .loop .inv .1 .within, subst⁻¹ (λ (x : ℕ). x < 48) (c .end-of .ensures) (end-small (c .before .before .loop .left - 1)))
+
+enum-known-q : tie.Need-enum-known-q Inv-loop μ-loop
+enum-known-q c = search needs
+
+same-length : tie.Need-same-length Inv-loop μ-loop
+same-length c = listed-length 0 (number 16) _ _ _ _ _ _ _ _ _ (c .before .before .before .before .before .before .loop .inv .1)
+
+returns : tie.Need-returns Inv-loop μ-loop
+returns c = turn-bad 0 (number 16) _ _ _ _ _ _ _ _ _ (c .before .before .before .before .before .before .loop .inv .1) _ _ (c .before .before .before .before .before .loop-test .taken) (c .before .before .before .before .end-of .ensures) (num-bad _ _ _ (c .before .before .before .number-at .ensures) (search))
+
+enum-known-v : tie.Need-enum-known-v Inv-loop μ-loop
+enum-known-v c = search needs
+
+cast-put-u16 : tie.Need-cast-put-u16 Inv-loop μ-loop
+cast-put-u16 c = record { fits = omega (arith, number-limit 16 (c .before .before .before .before .before .end-of .result) _ _ _ (c .before .before .v .given .0 .0) (c .before .before .v .given .0 .1 .0) (subst⁻¹ (λ (x : ℕ). x < 48) (c .before .before .before .before .before .end-of .ensures) (end-small (c .before .before .before .before .before .before .before .loop .left - 1))) (omega arith) (c .before .before .before .before .before .before .before .loop .inv .1 .within) (c .before .before .before .before .number-at .ensures) (search)) }
+
+put-u16-requires : tie.Need-put-u16-requires Inv-loop μ-loop
+put-u16-requires c κs = search needs
+
+add-j : tie.Need-add-j Inv-loop μ-loop
+add-j c = omega (arith, c .before .before .before .before .before .before .before .before .before .before .loop .inv .1 .counted, c .before .before .before .before .before .before .before .before .before .before .loop .inv .1 .fits, c .before .before .before .before .before .before .before .before .before .loop-test .taken)
+
+loop-less : tie.Need-loop-less Inv-loop μ-loop
+loop-less c = search needs
+
+loop-again : tie.Need-loop-again Inv-loop μ-loop
+loop-again c = (
+  search needs,
+  turn-got 0 (number 16) _ _ _ _ _ _ _ _ _ (c .before .before .before .before .before .before .before .before .before .before .loop .inv .1) _ _ _ _ (c .before .before .before .before .before .before .before .before .before .loop-test .taken) (c .before .before .before .before .before .before .before .before .end-of .ensures) (λ m. number-lawful 16 _ (end-small m) (omega arith))
+      (num-got _ _ _ _ (c .before .before .before .before .before .before .before .number-at .ensures) (search)) (c .before .before .put-u16 .ensures),
+)
+
+same-length-2 : tie.Need-same-length-2 Inv-loop μ-loop
+same-length-2 c = listed-length 0 (number 16) _ _ _ _ _ _ _ _ _ (c .before .loop .inv .1)
+
+returns-2 : tie.Need-returns-2 Inv-loop μ-loop
+returns-2 c = (listed-seen 0 (number 16) _ _ _ _ _ _ _ _ _ (c .before .loop .inv .1) (c .loop-test .left), listed-stored 0 (number 16) _ _ _ _ _ _ _ _ _ (c .before .loop .inv .1) (c .loop-test .left))
+
+pub counts-spec : {M : Type 1} → statement M
+counts-spec =
+    tie.close
+    (tie.spec
+    Inv-loop
+    μ-loop
+    loop-holds
+    sub-left
+    end-of-requires
+    number-at-requires
+    enum-known-q
+    same-length
+    returns
+    enum-known-v
+    cast-put-u16
+    put-u16-requires
+    add-j
+    loop-less
+    loop-again
+    same-length-2
+    returns-2)

@@ -1,0 +1,15 @@
+-- `record::end_of` meets its contract. Assumes nothing.
+use borrow.Author.Needs.{needs}
+use native.Mathlib.Omega.{arith}
+use Rattle.record.proofs.Places.{end-more}
+use Rattle.record.proofs.piece.end_of.Statement.{statement}
+use Rattle.record.proofs.piece.end_of.Tie as tie
+
+returns : tie.Need-returns
+returns c = search needs
+
+returns-2 : tie.Need-returns-2
+returns-2 c = search (end-more, c .if1 .left, needs)
+
+pub end-of-spec : {M : Type 1} → statement M
+end-of-spec = tie.close (tie.spec returns returns-2)

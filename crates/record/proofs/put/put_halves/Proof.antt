@@ -1,0 +1,77 @@
+-- `record::put::put_halves` meets its contract: the loop of `ItemStores`, over half floats. Assumes nothing.
+use mathlib.Core.Path.{_≡_, refl, sym, ap, _∙_, subst⁻¹}
+use Prim.Native.Nat.{ℕ, _+_, _*_, _-_, _≤_, _<_}
+use native.Mathlib.Omega.{arith}
+use borrow.Author.Needs.{needs}
+use lib.ListN.{length, getD}
+use Rattle.record.specs.Half.{half}
+use Rattle.record.proofs.Stores.{put-length}
+use Rattle.record.proofs.ItemStores.{Wrote, wrote-start, wrote-on, wrote-place}
+use Rattle.record.proofs.LineStores.{items-stored, half-short}
+use Rattle.record.proofs.put.put_halves.Statement.{statement}
+use Rattle.record.proofs.put.put_halves.Tie as tie
+use Rattle.record.proofs.put.put_halves.Reads as reads
+use Rattle.record.proofs.put.put_halves.Lts as lts
+use Rattle.record.proofs.piece.end_of.Reads as end-of-reads
+use Rattle.record.proofs.put.put_half.Reads as put-half-reads
+
+abbrev Inv-loop : tie.InvT-loop
+Inv-loop src out₀ at i₀ p₀ out i p = (i ≤ length src) × (at + 4294967296 * length src < 4611686018427387904) × Wrote 0 half src out₀ at out i p
+
+abbrev μ-loop : tie.MeasureT-loop
+μ-loop src out₀ at i₀ p₀ out i p = length src - i
+
+loop-holds : tie.Need-loop-holds Inv-loop μ-loop
+loop-holds c = (search needs, search needs, wrote-start 0 half _ _ _)
+
+sub-end-of : tie.Need-sub-end-of Inv-loop μ-loop
+sub-end-of c = search needs
+
+sub-end-of-2 : tie.Need-sub-end-of-2 Inv-loop μ-loop
+sub-end-of-2 c = search needs
+
+end-of-requires : tie.Need-end-of-requires Inv-loop μ-loop
+end-of-requires c κs = search needs
+
+mul-put-half : tie.Need-mul-put-half Inv-loop μ-loop
+mul-put-half c = search needs
+
+shared-slice-read-put-half : tie.Need-shared-slice-read-put-half Inv-loop μ-loop
+shared-slice-read-put-half c = search needs
+
+put-half-requires : tie.Need-put-half-requires Inv-loop μ-loop
+put-half-requires c κs = omega (arith, wrote-place 0 half _ _ _ _ _ _ (c .before .before .before .before .loop .inv .2), c .before .before .before .loop-test .taken)
+
+add-i : tie.Need-add-i Inv-loop μ-loop
+add-i c = search needs
+
+loop-less : tie.Need-loop-less Inv-loop μ-loop
+loop-less c = search needs
+
+loop-again : tie.Need-loop-again Inv-loop μ-loop
+loop-again c = (search needs, search needs, wrote-on 0 half _ _ _ _ _ _ (c .before .before .before .before .before .before .before .loop .inv .2) _ _ (getD (c .before .before .before .before .before .before .before .before .before .before .args .src .now) (c .before .before .before .before .before .before .before .loop .i) 0) _ (c .before .before .before .before .before .before .loop-test .taken) (c .before .before .before .before .before .end-of .ensures) refl (half-short (getD (c .before .before .before .before .before .before .before .before .before .before .args .src .now) (c .before .before .before .before .before .before .before .loop .i) 0) (c .before .before .before .before .before .end-of .result)) (c .before .before .put-half .ensures .0) (c .before .before .put-half .ensures .1))
+
+same-length : tie.Need-same-length Inv-loop μ-loop
+same-length c = put-length _ _ _ _ _ (c .before .loop .inv .2 .put)
+
+returns : tie.Need-returns Inv-loop μ-loop
+returns c = items-stored 0 half _ _ _ _ _ _ (c .before .loop .inv .2) (search needs) (c .loop-test .left)
+
+pub put-halves-spec : {M : Type 1} → statement M
+put-halves-spec =
+    tie.close
+    (tie.spec
+    Inv-loop
+    μ-loop
+    loop-holds
+    sub-end-of
+    sub-end-of-2
+    end-of-requires
+    mul-put-half
+    shared-slice-read-put-half
+    put-half-requires
+    add-i
+    loop-less
+    loop-again
+    same-length
+    returns)

@@ -1,0 +1,22 @@
+use Rattle.record.proofs.ReadPlaces.{room-raw, room-none}
+use borrow.Author.Needs.{needs}
+use Rattle.record.proofs.reader.no_room.Statement.{statement}
+use Rattle.record.proofs.reader.no_room.Tie as tie
+use Rattle.record.proofs.reader.no_room.Reads as reads
+use Rattle.record.proofs.reader.no_room.Lts as lts
+use Rattle.record.proofs.reader.any_raw.Reads as any-raw-reads
+
+-- src/reader.rt:112:8
+any-raw-requires : tie.Need-any-raw-requires
+any-raw-requires c κs = search needs
+
+-- src/reader.rt:113:9
+returns : tie.Need-returns
+returns c = search (room-raw, needs)
+
+-- src/reader.rt:108:1
+returns-2 : tie.Need-returns-2
+returns-2 c = search (room-none, needs)
+
+pub no-room-spec : {M : Type 1} → statement M
+no-room-spec = tie.close (tie.spec any-raw-requires returns returns-2)

@@ -1,0 +1,219 @@
+// A description written as its record.
+use crate::fixed::BANDS;
+use crate::fixed::DEFAULT;
+use crate::fixed::LINE_END;
+use crate::fixed::NUMBERS;
+use crate::fixed::SAMPLES;
+use crate::fixed::long_heading;
+use crate::fixed::orders_of;
+use crate::fixed::short_heading;
+use crate::kinds::number_count;
+use crate::put::put_bytes;
+use crate::put::put_counts;
+use crate::put::put_halves;
+use crate::put::put_samples;
+use crate::put::put_u8;
+use crate::reader::any_raw;
+use params::RowCheck;
+use transform::Kind;
+ghost use mathlib.Core.Path.{_≡_};
+ghost use Prim.Native.Nat.{_+_, _*_, _<_};
+ghost use lib.ListN.{length, getD};
+ghost use lib.IntN.{pos};
+ghost use Rattle.record.specs.Text.{bytes};
+ghost use Rattle.record.specs.Number.{number, signed};
+ghost use Rattle.record.specs.Half.{half};
+ghost use Rattle.record.specs.Record.{header, heading, modeLines, parts};
+ghost use Rattle.record.specs.Rows.{rowFormat, entryOf};
+ghost use Rattle.record.specs.Description.{lentFault, recordOf};
+ghost use Rattle.record.specs.Replies.{fitted, writeAnswer, bufferLeft, bufferAfter};
+ghost use Rattle.record.specs.Stored.{Stored, Line, Ready, Checked, kindText, kindTexts};
+
+// The answers to a writing: document 01's DONE, LENT, ROW and ROOM.
+pub enum Written {
+    Done { length: usize },
+    Lent,
+    Row { kind: usize },
+    Room { length: usize },
+}
+
+// The line of band counts, where there is one.
+fn put_bands(src: &[u16], out: &mut [u8], at: usize) -> usize
+    requires { ⌜ at + 4294967296 * length (now src) < 4000000000000000000 ⌝ }
+    ensures { λ r. ⌜ Line (bytes "bands=") 0 (number 16) (now (src .entry)) (now (out .entry)) (now (out .exit)) at r ⌝ }
+{
+    if src.len() == 0 {
+        return at;
+    }
+    let p = put_bytes(out, at, &BANDS);
+    put_counts(src, out, p)
+}
+
+// The line of numbers, where there is one.
+fn put_numbers(src: &[u16], out: &mut [u8], at: usize) -> usize
+    requires { ⌜ at + 4294967296 * length (now src) < 4000000000000000000 ⌝ }
+    ensures { λ r. ⌜ Line (bytes "numbers=") 0 half (now (src .entry)) (now (out .entry)) (now (out .exit)) at r ⌝ }
+{
+    if src.len() == 0 {
+        return at;
+    }
+    let p = put_bytes(out, at, &NUMBERS);
+    put_halves(src, out, p)
+}
+
+// The line of samples, where there is one.
+fn put_part(src: &[i32], out: &mut [u8], at: usize) -> usize
+    requires { ⌜ at + 4294967296 * length (now src) < 4000000000000000000 ⌝ }
+    ensures { λ r. ⌜ Line (bytes "samples=") (pos 0) signed (now (src .entry)) (now (out .entry)) (now (out .exit)) at r ⌝ }
+{
+    if src.len() == 0 {
+        return at;
+    }
+    let p = put_bytes(out, at, &SAMPLES);
+    put_samples(src, out, p)
+}
+
+// The first line.
+fn put_header(out: &mut [u8], flag: u16) -> usize
+    requires { ⌜ flag < 2 ⌝ }
+    ensures { λ r. ⌜ Stored (header .write flag) (now (out .entry)) (now (out .exit)) 0 r 10 ⌝ }
+{
+    let p = put_bytes(out, 0, &DEFAULT);
+    put_u8(out, p, 48 + (flag as u8));
+    put_bytes(out, p + 1, &LINE_END)
+}
+
+// A kind's heading.
+fn put_heading(out: &mut [u8], at: usize, kind: usize) -> usize
+    requires { ⌜ (at < 4000000000000000000) × (kind < 17) ⌝ }
+    ensures { λ r. ⌜ Stored (heading kind) (now (out .entry)) (now (out .exit)) at r 13 ⌝ }
+{
+    if kind < 10 {
+        let line = short_heading(kind);
+        return put_bytes(out, at, &line);
+    }
+    let line = long_heading(kind);
+    put_bytes(out, at, &line)
+}
+
+// The three lines that each kind has.
+fn put_mode(out: &mut [u8], at: usize, kind: usize, mode: u16) -> usize
+    requires { ⌜ (at < 3000000000000000000) × ((kind < 17) × (mode < 8)) ⌝ }
+    ensures { λ r. ⌜ Stored (modeLines kind .write mode) (now (out .entry)) (now (out .exit)) at r 26 ⌝ }
+{
+    let p = put_heading(out, at, kind);
+    put_u8(out, p, 48 + (mode as u8));
+    let line = orders_of(kind);
+    put_bytes(out, p + 1, &line)
+}
+
+// The lines that a row's mode has.
+fn put_parts(kind: usize, row: &[u16], part: &[i32], out: &mut [u8], at: usize) -> usize
+    requires { ⌜ (at < 2000000000000000000) × Ready kind (now row) (now part) ⌝ }
+    ensures { λ r. ⌜ Stored (parts kind (getD (now (row .entry)) 0 0) .write (entryOf (now (row .entry), now (part .entry)) .1)) (now (out .entry)) (now (out .exit)) at r 1000000000000000 ⌝ }
+{
+    let mode = row[0] as usize;
+    let stop = 1 + params::LISTS[mode];
+    let p = put_bands(&row[1..stop], out, at);
+    let last = 3 + number_count(mode, row[1], row[2]);
+    let q = put_numbers(&row[3..last], out, p);
+    put_part(part, out, q)
+}
+
+// The lines of a kind, from its row and its samples.
+fn put_row(kind: usize, row: &[u16], part: &[i32], out: &mut [u8], at: usize) -> usize
+    requires { ⌜ (at < 1000000000000000000) × ((kind < 17) × Ready kind (now row) (now part)) ⌝ }
+    ensures { λ r. ⌜ Stored (rowFormat kind .write (now (row .entry), now (part .entry))) (now (out .entry)) (now (out .exit)) at r 1000000000000026 ⌝ }
+{
+    let p = put_mode(out, at, kind, row[0]);
+    put_parts(kind, row, part, out, p)
+}
+
+// The lines of one kind of a description.
+fn put_kind(rows: &[u16], samples: &[i32], kind: usize, out: &mut [u8], at: usize) -> usize
+    requires { ⌜ (at < 1000000000000000000) × ((kind < 17) × (Checked (now rows) (now samples) × (getD (now rows) 126 0 ≡ 1 → ⊥))) ⌝ }
+    ensures { λ r. ⌜ Stored (kindText (now (rows .entry)) (now (samples .entry)) kind) (now (out .entry)) (now (out .exit)) at r 1000000000000026 ⌝ }
+{
+    let from = kind * 128;
+    let to = from + 128;
+    if rows[from] == 7 {
+        let shape = Kind { no: kind };
+        let start = shape.arena_start();
+        let stop = start + shape.arena_length();
+        return put_row(kind, &rows[from..to], &samples[start..stop], out, at);
+    }
+    put_row(kind, &rows[from..to], &samples[0..0], out, at)
+}
+
+// The lines of all kinds of a description.
+fn put_kinds(rows: &[u16], samples: &[i32], out: &mut [u8], at: usize) -> usize
+    requires { ⌜ (at < 100) × (Checked (now rows) (now samples) × (getD (now rows) 126 0 ≡ 1 → ⊥)) ⌝ }
+    ensures { λ r. ⌜ Stored (kindTexts (now (rows .entry)) (now (samples .entry)) 0 17) (now (out .entry)) (now (out .exit)) at r 17000000000000442 ⌝ }
+{
+    let mut kind: usize = 0;
+    let mut p = at;
+    while kind < 17 {
+        p = put_kind(rows, samples, kind, out, p);
+        kind += 1;
+    }
+    p
+}
+
+// Stores the record of a description as far as there is room, and gives its length.
+fn emit(rows: &[u16], samples: &[i32], out: &mut [u8]) -> usize
+    requires { ⌜ Checked (now rows) (now samples) ⌝ }
+    ensures { λ r. ⌜ Stored (recordOf (now (rows .entry)) (now (samples .entry))) (now (out .entry)) (now (out .exit)) 0 r 17000000000000452 ⌝ }
+{
+    let flag = rows[126];
+    let p = put_header(out, flag);
+    if flag == 1 {
+        return p;
+    }
+    put_kinds(rows, samples, out, p)
+}
+
+// Writes the record of a description that is allowed.
+fn write_allowed(rows: &[u16], samples: &[i32], buffer: &mut [u8]) -> Written
+    requires { ⌜ Checked (now rows) (now samples) ⌝ }
+    ensures answer { λ r. ⌜ r ≡ fitted (length (recordOf (now (rows .entry)) (now (samples .entry)))) (length (now (buffer .entry))) ⌝ }
+    ensures buffer { λ r. ⌜ now (buffer .exit) ≡ bufferLeft r (recordOf (now (rows .entry)) (now (samples .entry))) (now (buffer .entry)) ⌝ }
+{
+    let room = buffer.len();
+    let length = emit(rows, samples, &mut buffer[0..0]);
+    if room < length {
+        return Written::Room { length };
+    }
+    emit(rows, samples, buffer);
+    Written::Done { length }
+}
+
+// Whether a length is other than named.
+fn is_lent(rows: &[u16], samples: &[i32]) -> bool
+    ensures { λ r. ⌜ r ≡ lentFault (now (rows .entry)) (now (samples .entry)) ⌝ }
+{
+    if rows.len() != 2176 {
+        return true;
+    }
+    if samples.len() == 394752 {
+        return false;
+    }
+    if samples.len() != 0 {
+        return true;
+    }
+    any_raw(rows)
+}
+
+// Writes the record of a description: all of it, or nothing.
+pub fn write_record(rows: &[u16], samples: &[i32], buffer: &mut [u8]) -> Written
+    ensures answer { λ r. ⌜ r ≡ writeAnswer (now (rows .entry)) (now (samples .entry)) (length (now (buffer .entry))) ⌝ }
+    ensures buffer { λ r. ⌜ now (buffer .exit) ≡ bufferAfter (now (rows .entry)) (now (samples .entry)) (now (buffer .entry)) ⌝ }
+{
+    if is_lent(rows, samples) {
+        return Written::Lent;
+    }
+    match params::check_rows(rows) {
+        RowCheck::Done => write_allowed(rows, samples, buffer),
+        RowCheck::Lent => Written::Lent,
+        RowCheck::Row { kind } => Written::Row { kind },
+    }
+}
