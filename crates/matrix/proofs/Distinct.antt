@@ -164,7 +164,7 @@ above a b h = first-pos b a (subst (λ (x : ℕ). 0 < x) (mul-comm a b) h)
 in-range : {n : ℕ} → n < 2 ^ 23 → n < 2 ^ 24
 in-range h = lt-trans h (lit< tt)
 
--- ticket 10: the larger magnitude has the strictly larger weight
+-- the larger magnitude has the strictly larger weight
 pub larger : (d : Float) (y z : ℤ) → Coarse d → natAbs y < natAbs z → natAbs z < 2 ^ 23 → refused (weightOf d y) ≡ false → refused (weightOf d z) ≡ false → T (lt (weightOf d y) (weightOf d z))
 larger d y z low h top p q =
     let a = accepted (weightOf d y) p in
