@@ -29,3 +29,4 @@ pub mod DefaultRows
 pub mod AllowedOk
 pub mod Theorems
 pub mod ReadBack
+pub mod OkAllowed
