@@ -30,3 +30,4 @@ pub mod AllowedOk
 pub mod Theorems
 pub mod ReadBack
 pub mod OkAllowed
+pub mod SetAllowed

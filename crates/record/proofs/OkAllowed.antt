@@ -65,11 +65,11 @@ sample-fits end (pos zero) o = omega arith
 sample-fits end (pos (suc n)) o = let x : (1 ≤ suc n) × (suc n ≤ 2147483647) = (rw (ne-eqb (suc n) 0 (λ e. omega arith)) at o) .0 in omega (arith, x .1)
 sample-fits end (negsuc n) o = let x : (1 ≤ suc n) × (suc n ≤ 2147483648) = o .0 .1 .0 in omega (arith, x .1)
 
-each-append : (P : ℕ → Type 0) (l m : List ℕ) → Each P l → Each P m → Each P (l ++ m)
+pub each-append : (P : ℕ → Type 0) (l m : List ℕ) → Each P l → Each P m → Each P (l ++ m)
 each-append P [] m e f = f
 each-append P (a ∷ l) m e f = (e .0, each-append P l m (e .1) f)
 
-each-zero : (n : ℕ) → Each (λ v. v < 65536) (replicate n 0)
+pub each-zero : (n : ℕ) → Each (λ v. v < 65536) (replicate n 0)
 each-zero zero = tt
 each-zero (suc n) = (omega arith, each-zero n)
 
