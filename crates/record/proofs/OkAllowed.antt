@@ -33,7 +33,7 @@ mode-allowed k m o =
     ap (allowed k) (sym q) ∙ u .1
 
 counts-pass : (n c d : ℕ) → n ≤ 2 → line (bytes "bands=") 0 (number 16) n .Ok (take n (c ∷ d ∷ [])) → c ≡ getD (take n (c ∷ d ∷ [])) 0 0 → d ≡ getD (take n (c ∷ d ∷ [])) 1 0
-  → (countOk (leb 1 n) c ≡ true) × (countOk (leb 2 n) d ≡ true) × (c ≤ 16) × (d ≤ 16)
+    → (countOk (leb 1 n) c ≡ true) × (countOk (leb 2 n) d ≡ true) × (c ≤ 16) × (d ≤ 16)
 counts-pass zero c d h o e f = (eq-eqb c 0 e, eq-eqb d 0 f, omega arith, omega arith)
 counts-pass (suc zero) c d h o e f =
     let x : (1 ≤ c) × (c ≤ 16) = o .0 .1 .0 .0 in
