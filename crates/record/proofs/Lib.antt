@@ -29,3 +29,5 @@ pub mod DefaultRows
 pub mod AllowedOk
 pub mod Theorems
 pub mod ReadBack
+pub mod OkAllowed
+pub mod SetAllowed

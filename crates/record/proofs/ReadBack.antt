@@ -80,7 +80,7 @@ module _ (arena : List ℤ) (long : length arena ≡ 394752) (j : ℕ) (v : List
       go x a b (yes l) = store-below (pos 0) arena (startOf j) v x (omega (arith, starts k j l))
       go x a b (no l) = store-above (pos 0) arena (startOf j) v x (omega (arith, starts j k (omega arith)))
 
-own-part : (arena : List ℤ) → length arena ≡ 394752 → (k : ℕ) (v : List ℤ) → length v ≡ placesOf k → partOf (sets arena (startOf k) v) k ≡ v
+pub own-part : (arena : List ℤ) → length arena ≡ 394752 → (k : ℕ) (v : List ℤ) → length v ≡ placesOf k → partOf (sets arena (startOf k) v) k ≡ v
 own-part arena long k v e =
     ap (λ (n : ℕ). take n (drop (startOf k) (sets arena (startOf k) v))) (sym e) ∙ part-stored (pos 0) arena (startOf k) v (omega (arith, e, end-le k, long))
 

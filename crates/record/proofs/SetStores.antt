@@ -106,7 +106,7 @@ lent-raw rows samples k e h r = go (ℕ-discrete (length samples) 394752)
         absurd (let w : lentFault rows samples ≡ true = rw (ne-eqb (length samples) 394752 l, raw-any rows k h r, off (eqb (length samples) 0), off (eqb (length rows) 2176)) in
         let q : true ≡ false = sym w ∙ e in let z : _≡_ {A = ℕ} 0 1 = cc in omega arith)
 
-each-zeros : (n : ℕ) → Each fits32 (replicate n (pos 0))
+pub each-zeros : (n : ℕ) → Each fits32 (replicate n (pos 0))
 each-zeros zero = tt
 each-zeros (suc n) = (omega arith, each-zeros n)
 

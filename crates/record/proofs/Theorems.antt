@@ -111,3 +111,17 @@ room-is r s room a h = rw (a .lent, a .row, lt-ltb room (length (recordOf r s)) 
 pub done-is : (r : List ℕ) (s : List ℤ) (room : ℕ) → Allowed r s → length (recordOf r s) ≤ room → writeAnswer r s room ≡ writes.Done (length (recordOf r s))
 unfolding writeAnswer
 done-is r s room a h = rw (a .lent, a .row, le-ltb room (length (recordOf r s)) h)
+
+-- TEXT is given with that number, and with no other
+pub text-answer : (n l : ℕ) (t : List ℕ) (k : ℕ) → readAnswer n l t ≡ takes.Text k → whole flatFormat t ≡ text k
+unfolding readAnswer
+text-answer n l t k e = go (readLent n l) (whole flatFormat t) refl e
+  where
+    two : (b : Bool) → pick b (takes.Room 394752) takes.Done ≡ takes.Text k → ⊥
+    two true q = let z : _≡_ {A = ℕ} 0 1 = cc in omega arith
+    two false q = let z : _≡_ {A = ℕ} 0 1 = cc in omega arith
+
+    go : (b : Bool) (x : Reading Flat) → whole flatFormat t ≡ x → pick b takes.Lent (readIs l x) ≡ takes.Text k → whole flatFormat t ≡ text k
+    go true x h q = absurd (let z : _≡_ {A = ℕ} 0 1 = cc in omega arith)
+    go false (done f) h q = absurd (two (anyRaw (f .0) && eqb l 0) q)
+    go false (text m) h q = let z : m ≡ k = cc in h ∙ ap text z
