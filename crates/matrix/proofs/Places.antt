@@ -82,7 +82,7 @@ other : (a : Expanded) {n : ℕ} → number a ≡ suc n → a ≡ Done → ⊥
 unfolding number
 other a h e = let z : _≡_ {A = ℕ} (number a) 0 = ap number e in omega arith
 
-both : (a b : Expanded) → orElse a b ≡ Done → (a ≡ Done) × (b ≡ Done)
+pub both : (a b : Expanded) → orElse a b ≡ Done → (a ≡ Done) × (b ≡ Done)
 both Done b e = (refl, e)
 both Lent b e = (e, absurd (other Lent {n = 0} (unfold number in refl) e))
 both (Row k) b e = (e, absurd (other (Row k) {n = 5} (unfold number in refl) e))

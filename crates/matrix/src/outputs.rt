@@ -52,7 +52,7 @@ pub(crate) fn invert(s: &mut [f32])
 }
 
 // All zero.
-pub(crate) fn clear(s: &mut [f32])
+pub fn clear(s: &mut [f32])
     ensures { λ r. ⌜ now (s .exit) ≡ replicate (length (now (s .entry))) nought ⌝ }
 {
     let mut i = 0;

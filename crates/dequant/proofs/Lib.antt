@@ -1,0 +1,12 @@
+pub mod Lent
+pub mod Kindwise
+pub mod Parts
+pub mod Rounds
+pub mod JpegLaws
+pub mod Arena
+pub mod Expanded
+pub mod Shows
+pub mod Differ
+pub mod Numbers
+pub mod JpegPart
+pub mod Table

@@ -1,0 +1,68 @@
+-- Document 01's numbers to hold, P1 to P13, as one table under a single theorem on the definitions. Assumes nothing.
+use mathlib.Core.Path.{_≡_, refl}
+use mathlib.Core.Bool.{true, false}
+use mathlib.Core.List.{List, [], _∷_}
+use Prim.Native.Nat.{ℕ}
+use lib.IntN.{pos, negsuc}
+use lib.ListN.{length, getD, replicate}
+use lib.Ieee.{Float, nan, fin}
+use Rattle.transform.specs.Kinds.{transposedPlace}
+use Rattle.transform.proofs.Numbers as kinds
+use Rattle.bitstream.specs.Half.{half, barred}
+use Rattle.bitstream.proofs.Numbers as halves
+use Rattle.params.specs.Header.{replyOf, readHeader}
+use Rattle.params.proofs.Numbers as headers
+use Rattle.matrix.specs.Raw.{weightOf, refused}
+use Rattle.matrix.specs.Mirror.{mirror}
+use Rattle.matrix.proofs.NumbersToHold as weights
+use Rattle.dequant.specs.Jpeg.{jpegNumbers, jpegAnswer}
+use Rattle.bands.proofs.Numbers.{P7, p7}
+use Rattle.dequant.proofs.Numbers.{Asked, p8, p9}
+
+-- whatever the 2,176 numbers of the rows were before (P1 to P5), whatever rows of denominator 1004, 1003 or 1005 and n samples pass LENT and ROW for
+-- channel c (P8, P9), and whatever weights kind 6 has (P13)
+pub record Table (before rows : List ℕ) (n c : ℕ) (ws : List Float) : Type 0 where
+  -- byte 01: DONE, next bit 1; seven zero bytes: DONE, next bit 52; six: SHORT, kind 15, bit 46; bytes 00 20: MODE, kind 4, bit 13
+  pub p1 : replyOf (readHeader (1 ∷ []) 0 0 before .answer) ≡ 0 ∷ 1 ∷ []
+  pub p2 : replyOf (readHeader (replicate 7 0) 0 0 before .answer) ≡ 0 ∷ 52 ∷ []
+  pub p3 : replyOf (readHeader (replicate 6 0) 0 0 before .answer) ≡ 2 ∷ 15 ∷ 46 ∷ []
+  pub p4 : replyOf (readHeader (0 ∷ 32 ∷ []) 0 0 before .answer) ≡ 3 ∷ 4 ∷ 13 ∷ []
+  -- half 7bff is 65504 = 2047 x 2 ^ 5, 7c00 FLOAT: here as kind 0's first number, at bit 4; half 0001 is 2 ^ -24
+  pub p5 : half 0x7bff ≡ fin false 2047 (pos 5)
+  pub p5-float : (barred 0x7c00 ≡ true) × (replyOf (readHeader (0x02 ∷ 0xc0 ∷ 0x07 ∷ []) 0 0 before .answer) ≡ 4 ∷ 0 ∷ 4 ∷ [])
+  pub p6 : half 0x0001 ≡ fin false 1 (negsuc 23)
+  -- mult(-1) = 0.5, mult(1) = 2, mult(0) = 1
+  pub p7 : P7
+  -- JPEG values: DONE, and NONE
+  pub p8 : Asked rows n c 0x1004 → jpegNumbers (jpegAnswer rows n c) ≡ 0 ∷ []
+  pub p9 : (Asked rows n c 0x1003 → jpegNumbers (jpegAnswer rows n c) ≡ 11 ∷ []) × (Asked rows n c 0x1005 → jpegNumbers (jpegAnswer rows n c) ≡ 11 ∷ [])
+  -- denominator 7bff: sample 1526 gives 99,959,104 = 1,561,861 x 2 ^ 6, 1527 WEIGHT
+  pub p10 : (weightOf (half 0x7bff) (pos 1526) ≡ fin false 1561861 (pos 6)) × (refused (weightOf (half 0x7bff) (pos 1526)) ≡ false) × (refused (weightOf (half 0x7bff) (pos 1527)) ≡ true)
+  -- denominator 3c00: sample 99,999,995 gives 99,999,992 = 12,499,999 x 2 ^ 3, 99,999,996 WEIGHT
+  pub p11 : (weightOf (half 0x3c00) (pos 99999995) ≡ fin false 12499999 (pos 3)) × (refused (weightOf (half 0x3c00) (pos 99999995)) ≡ false) × (refused (weightOf (half 0x3c00) (pos 99999996)) ≡ true)
+  -- denominator 1004, sample 16: 257/32768
+  pub p12 : weightOf (half 0x1004) (pos 16) ≡ fin false 257 (negsuc 14)
+  -- kind 6: straight place 17 is transposed 9, 1 is 8
+  pub p13 : (transposedPlace 6 17 ≡ 9) × (transposedPlace 6 1 ≡ 8)
+  pub p13-mirror : (getD (mirror 6 ws) 9 nan ≡ getD ws 17 nan) × (getD (mirror 6 ws) 8 nan ≡ getD ws 1 nan)
+
+pub table-holds : (before rows : List ℕ) (n c : ℕ) (ws : List Float) → length before ≡ 2176 → Table before rows n c ws
+table-holds before rows n c ws l =
+    let h = headers.numbers-hold before l in
+    record {
+      p1 = h .p1;
+      p2 = h .p2;
+      p3 = h .p3;
+      p4 = h .p4;
+      p5 = halves.p5;
+      p5-float = (halves.p5-barred, h .p5);
+      p6 = halves.p6;
+      p7 = p7;
+      p8 = p8 rows n c;
+      p9 = p9 rows n c;
+      p10 = weights.p10;
+      p11 = weights.p11;
+      p12 = weights.p12;
+      p13 = kinds.p13;
+      p13-mirror = weights.p13 ws;
+    }
