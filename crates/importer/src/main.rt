@@ -1,0 +1,43 @@
+// Cuts keys: expands the header on standard input, at most 2,550 bytes, and writes for each kind and channel the first row of
+// what lookup shows with no order named: eight hexadecimal digits for a weight, commas between them.
+use dequant::Order;
+use libc::STDIN_FILENO;
+use transform::Kind;
+
+// The first row of a part.
+fn key(part: &[f32], width: usize) {
+    if width <= part.len() {
+        show_set::weights(&part[..width]);
+    }
+    show::text(b"\n");
+}
+
+fn show_channel<'a>(straight: &'a [f32], transposed: &'a [f32], kind: usize, channel: usize) {
+    let k = Kind { no: kind };
+    let part = dequant::lookup(straight, transposed, kind, channel, Order::Unnamed);
+    key(part, k.width());
+}
+
+fn show_kind<'a>(straight: &'a [f32], transposed: &'a [f32], kind: usize) {
+    show_channel(straight, transposed, kind, 0);
+    show_channel(straight, transposed, kind, 1);
+    show_channel(straight, transposed, kind, 2);
+}
+
+fn show_kinds<'a>(straight: &'a [f32], transposed: &'a [f32]) {
+    let mut kind = 0;
+    while kind < Kind::COUNT {
+        show_kind(straight, transposed, kind);
+        kind += 1;
+    }
+}
+
+fn main() {
+    let mut header = [0u8; 2550];
+    let n = io::read_full(STDIN_FILENO, &mut header);
+    let mut straight = [0.0f32; 394752];
+    let mut transposed = [0.0f32; 394752];
+    if show_set::expand_header(&header[..n], &mut straight, &mut transposed) {
+        show_kinds(&straight, &transposed);
+    }
+}
