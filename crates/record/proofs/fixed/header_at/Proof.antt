@@ -1,3 +1,4 @@
+-- `record::fixed::header_at` meets its contract. Assumes nothing.
 use Rattle.record.proofs.Framed.{lit-within, flag-within, framed-open, framed-bad, framed-shut, framed-got}
 use borrow.Author.Needs.{needs}
 use Rattle.record.proofs.fixed.header_at.Statement.{statement}
@@ -7,63 +8,48 @@ use Rattle.record.proofs.fixed.header_at.Lts as lts
 use Rattle.record.proofs.fixed.flag_at.Reads as flag-at-reads
 use Rattle.record.proofs.piece.fixed_at.Reads as fixed-at-reads
 
--- src/fixed.rt:119:27
 slice-aggregate-fixed-at : tie.Need-slice-aggregate-fixed-at
 slice-aggregate-fixed-at c = search needs
 
--- src/fixed.rt:119:11
 fixed-at-requires : tie.Need-fixed-at-requires
 fixed-at-requires c κs = search needs
 
--- src/fixed.rt:120:19
 enum-known-p : tie.Need-enum-known-p
 enum-known-p c = search needs
 
--- src/fixed.rt:120:31
 flag-at-requires : tie.Need-flag-at-requires
 flag-at-requires c κs = search (lit-within, needs)
 
--- src/fixed.rt:121:22
 enum-known-d : tie.Need-enum-known-d
 enum-known-d c = search needs
 
--- src/fixed.rt:121:52
 slice-aggregate-fixed-at-2 : tie.Need-slice-aggregate-fixed-at-2
 slice-aggregate-fixed-at-2 c = search needs
 
--- src/fixed.rt:121:37
 fixed-at-requires-2 : tie.Need-fixed-at-requires-2
 fixed-at-requires-2 c κs = flag-within _ _ _ (c .before .before .d .given .0 .0) _ (search (lit-within, needs)) (c .before .before .before .before .flag-at .ensures) (search)
 
--- src/fixed.rt:122:27
 enum-known-e : tie.Need-enum-known-e
 enum-known-e c = search needs
 
--- src/fixed.rt:123:27
 enum-known-e-2 : tie.Need-enum-known-e-2
 enum-known-e-2 c = search needs
 
--- src/fixed.rt:125:22
 enum-known-q : tie.Need-enum-known-q
 enum-known-q c = search needs
 
--- src/fixed.rt:127:19
 enum-known-p-2 : tie.Need-enum-known-p-2
 enum-known-p-2 c = search needs
 
--- src/fixed.rt:115:1
 returns : tie.Need-returns
 returns c = search (framed-got, needs)
 
--- src/fixed.rt:115:1
 returns-2 : tie.Need-returns-2
 returns-2 c = search (framed-shut, needs)
 
--- src/fixed.rt:115:1
 returns-3 : tie.Need-returns-3
 returns-3 c = search (framed-bad, needs)
 
--- src/fixed.rt:115:1
 returns-4 : tie.Need-returns-4
 returns-4 c = search (framed-open, needs)
 

@@ -1,3 +1,4 @@
+-- `record::fixed::heading_at` meets its contract. Assumes nothing.
 use Rattle.record.proofs.Framed.{lit-same}
 use borrow.Author.Needs.{needs}
 use Rattle.record.proofs.fixed.heading_at.Statement.{statement}
@@ -8,35 +9,27 @@ use Rattle.record.proofs.fixed.long_heading.Reads as long-heading-reads
 use Rattle.record.proofs.fixed.short_heading.Reads as short-heading-reads
 use Rattle.record.proofs.piece.fixed_at.Reads as fixed-at-reads
 
--- src/fixed.rt:65:20
 short-heading-requires : tie.Need-short-heading-requires
 short-heading-requires c κs = search needs
 
--- src/fixed.rt:66:32
 slice-aggregate-fixed-at : tie.Need-slice-aggregate-fixed-at
 slice-aggregate-fixed-at c = search needs
 
--- src/fixed.rt:66:9
 fixed-at-requires : tie.Need-fixed-at-requires
 fixed-at-requires c κs = search needs
 
--- src/fixed.rt:66:9
 returns : tie.Need-returns
 returns c = lit-same _ _ _ _ _ (c .fixed-at .ensures) (c .before .before .short-heading .ensures)
 
--- src/fixed.rt:68:16
 long-heading-requires : tie.Need-long-heading-requires
 long-heading-requires c κs = search needs
 
--- src/fixed.rt:69:21
 slice-aggregate-fixed-at-2 : tie.Need-slice-aggregate-fixed-at-2
 slice-aggregate-fixed-at-2 c = search needs
 
--- src/fixed.rt:69:5
 fixed-at-requires-2 : tie.Need-fixed-at-requires-2
 fixed-at-requires-2 c κs = search needs
 
--- src/fixed.rt:60:1
 returns-2 : tie.Need-returns-2
 returns-2 c = lit-same _ _ _ _ _ (c .fixed-at2 .ensures) (c .before .before .long-heading .ensures)
 

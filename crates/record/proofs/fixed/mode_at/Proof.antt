@@ -1,3 +1,4 @@
+-- `record::fixed::mode_at` meets its contract. Assumes nothing.
 use Rattle.record.proofs.Framed.{lit-within, mode-within, framed-open, framed-bad, framed-shut, framed-got}
 use borrow.Author.Needs.{needs}
 use Rattle.record.proofs.fixed.mode_at.Statement.{statement}
@@ -8,55 +9,42 @@ use Rattle.record.proofs.fixed.heading_at.Reads as heading-at-reads
 use Rattle.record.proofs.fixed.mode_digit.Reads as mode-digit-reads
 use Rattle.record.proofs.fixed.orders_at.Reads as orders-at-reads
 
--- src/fixed.rt:136:11
 heading-at-requires : tie.Need-heading-at-requires
 heading-at-requires c κs = search needs
 
--- src/fixed.rt:137:19
 enum-known-p : tie.Need-enum-known-p
 enum-known-p c = search needs
 
--- src/fixed.rt:137:31
 mode-digit-requires : tie.Need-mode-digit-requires
 mode-digit-requires c κs = search (lit-within, needs)
 
--- src/fixed.rt:138:22
 enum-known-m : tie.Need-enum-known-m
 enum-known-m c = search needs
 
--- src/fixed.rt:138:37
 orders-at-requires : tie.Need-orders-at-requires
 orders-at-requires c κs = mode-within (c .before .before .before .before .before .before .before .before .before .args .kind) _ (c .before .before .before .before .before .p .given .0 .0) _ (c .before .m .given .0 .0) _ (search (lit-within, needs)) (c .before .before .before .mode-digit .ensures) (search)
 
--- src/fixed.rt:139:27
 enum-known-e : tie.Need-enum-known-e
 enum-known-e c = search needs
 
--- src/fixed.rt:140:27
 enum-known-e-2 : tie.Need-enum-known-e-2
 enum-known-e-2 c = search needs
 
--- src/fixed.rt:142:22
 enum-known-q : tie.Need-enum-known-q
 enum-known-q c = search needs
 
--- src/fixed.rt:144:19
 enum-known-p-2 : tie.Need-enum-known-p-2
 enum-known-p-2 c = search needs
 
--- src/fixed.rt:132:1
 returns : tie.Need-returns
 returns c = search (framed-got, needs)
 
--- src/fixed.rt:132:1
 returns-2 : tie.Need-returns-2
 returns-2 c = search (framed-shut, needs)
 
--- src/fixed.rt:132:1
 returns-3 : tie.Need-returns-3
 returns-3 c = search (framed-bad, needs)
 
--- src/fixed.rt:132:1
 returns-4 : tie.Need-returns-4
 returns-4 c = search (framed-open, needs)
 

@@ -1,3 +1,4 @@
+-- `record::fixed::mode_digit` meets its contract. Assumes nothing.
 use Rattle.record.proofs.Framed.{digit-low, mode-high, mode-got, mode-barred}
 use borrow.Author.Needs.{needs}
 use Rattle.record.proofs.fixed.mode_digit.Statement.{statement}
@@ -7,35 +8,27 @@ use Rattle.record.proofs.fixed.mode_digit.Lts as lts
 use Rattle.params.proofs.allows.Reads as allows-reads
 use Rattle.record.proofs.piece.byte_at.Reads as byte-at-reads
 
--- src/fixed.rt:101:13
 byte-at-requires : tie.Need-byte-at-requires
 byte-at-requires c κs = search needs
 
--- src/fixed.rt:101:13
 cast-b : tie.Need-cast-b
 cast-b c = search needs
 
--- src/fixed.rt:103:9
 returns : tie.Need-returns
 returns c = search (digit-low, needs)
 
--- src/fixed.rt:106:9
 returns-2 : tie.Need-returns-2
 returns-2 c = search (mode-high, needs)
 
--- src/fixed.rt:108:8
 allows-requires : tie.Need-allows-requires
 allows-requires c κs = search needs
 
--- src/fixed.rt:109:33
 add-t11 : tie.Need-add-t11
 add-t11 c = search needs
 
--- src/fixed.rt:109:9
 returns-3 : tie.Need-returns-3
 returns-3 c = search (mode-got, needs)
 
--- src/fixed.rt:97:1
 returns-4 : tie.Need-returns-4
 returns-4 c = search (mode-barred, needs)
 

@@ -1,3 +1,4 @@
+-- `record::fixed::orders_at` meets its contract. Assumes nothing.
 use Rattle.record.proofs.Framed.{lit-same}
 use borrow.Author.Needs.{needs}
 use Rattle.record.proofs.fixed.orders_at.Statement.{statement}
@@ -7,19 +8,15 @@ use Rattle.record.proofs.fixed.orders_at.Lts as lts
 use Rattle.record.proofs.fixed.orders_of.Reads as orders-of-reads
 use Rattle.record.proofs.piece.fixed_at.Reads as fixed-at-reads
 
--- src/fixed.rt:77:16
 orders-of-requires : tie.Need-orders-of-requires
 orders-of-requires c κs = search needs
 
--- src/fixed.rt:78:21
 slice-aggregate-fixed-at : tie.Need-slice-aggregate-fixed-at
 slice-aggregate-fixed-at c = search needs
 
--- src/fixed.rt:78:5
 fixed-at-requires : tie.Need-fixed-at-requires
 fixed-at-requires c κs = search needs
 
--- src/fixed.rt:73:1
 returns : tie.Need-returns
 returns c = lit-same _ _ _ _ _ (c .fixed-at .ensures) (c .before .before .orders-of .ensures)
 

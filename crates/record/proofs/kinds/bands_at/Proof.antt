@@ -1,3 +1,4 @@
+-- `record::kinds::bands_at` meets its contract. Assumes nothing.
 use Rattle.record.specs.Number.{number}
 use Rattle.record.specs.Text.{bytes}
 use Rattle.record.proofs.Framed.{lit-within}
@@ -10,39 +11,30 @@ use Rattle.record.proofs.kinds.bands_at.Lts as lts
 use Rattle.record.proofs.piece.counts.Reads as counts-reads
 use Rattle.record.proofs.piece.fixed_at.Reads as fixed-at-reads
 
--- src/kinds.rt:37:9
 returns : tie.Need-returns
 returns c = let a = c .before .before .before .args in line-none (bytes "bands=") 0 (number 16) (a .s .now) (a .at) (a .n) (a .out .now) (a .place) (c .if1 .taken)
 
--- src/kinds.rt:39:27
 slice-aggregate-fixed-at : tie.Need-slice-aggregate-fixed-at
 slice-aggregate-fixed-at c = search needs
 
--- src/kinds.rt:39:11
 fixed-at-requires : tie.Need-fixed-at-requires
 fixed-at-requires c κs = search needs
 
--- src/kinds.rt:40:19
 enum-known-p : tie.Need-enum-known-p
 enum-known-p c = search needs
 
--- src/kinds.rt:40:25
 counts-requires : tie.Need-counts-requires
 counts-requires c κs = (lit-within _ _ _ _ _ (search needs) (c .before .before .before .before .fixed-at .ensures) (search), search needs)
 
--- src/kinds.rt:41:19
 enum-known-p-2 : tie.Need-enum-known-p-2
 enum-known-p-2 c = search needs
 
--- src/kinds.rt:31:1
 same-length : tie.Need-same-length
 same-length c = search needs
 
--- src/kinds.rt:31:1
 returns-2 : tie.Need-returns-2
 returns-2 c = let a = c .before .before .before .before .before .before .before .before .before .before .before .before .args in line-items (bytes "bands=") 0 (number 16) (a .s .now) (a .at) (a .n) (a .out .now) (a .place) (c .before .before .before .before .before .before .before .before .before .if1 .left) _ (c .before .before .before .before .before .before .before .fixed-at .ensures) _ (search) _ _ (c .before .before .counts .ensures .0) (c .before .before .counts .ensures .1)
 
--- src/kinds.rt:31:1
 returns-3 : tie.Need-returns-3
 returns-3 c = let a = c .before .before .before .before .before .before .before .before .args in line-name (bytes "bands=") 0 (number 16) (a .s .now) (a .at) (a .n) (a .out .now) (a .place) (c .before .before .before .before .before .if1 .left) _ (c .before .before .before .fixed-at .ensures) _ (search)
 

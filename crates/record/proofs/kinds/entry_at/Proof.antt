@@ -1,3 +1,4 @@
+-- `record::kinds::entry_at` meets its contract. Assumes nothing.
 use native.Mathlib.Omega.{arith}
 use Rattle.record.proofs.PartPlaces.{mode-read, fresh-set, entry-got, entry-bad}
 use borrow.Author.Needs.{needs}
@@ -9,43 +10,33 @@ use Rattle.record.proofs.fixed.mode_at.Reads as mode-at-reads
 use Rattle.record.proofs.kinds.parts_at.Reads as parts-at-reads
 use Rattle.record.proofs.piece.put_u16.Reads as put-u16-reads
 
--- src/kinds.rt:133:11
 mode-at-requires : tie.Need-mode-at-requires
 mode-at-requires c κs = search needs
 
--- src/kinds.rt:134:18
 enum-known-m : tie.Need-enum-known-m
 enum-known-m c = search needs
 
--- src/kinds.rt:135:29
 cast-put-u16 : tie.Need-cast-put-u16
 cast-put-u16 c = let a = c .before .before .before .before .before .before .before .args in record { fits = omega (arith, mode-read (a .s .now) (a .at) (a .kind) _ (c .before .before .before .before .mode-at .ensures) (c .before .before .m .given .0 .0) (c .before .before .m .given .0 .1 .0) (search needs) (search)) }
 
--- src/kinds.rt:135:13
 put-u16-requires : tie.Need-put-u16-requires
 put-u16-requires c κs = search needs
 
--- src/kinds.rt:136:13
 parts-at-requires : tie.Need-parts-at-requires
 parts-at-requires c κs = let a = c .before .before .before .before .before .before .before .before .before .before .before .before .args in let w = mode-read (a .s .now) (a .at) (a .kind) _ (c .before .before .before .before .before .before .before .before .before .mode-at .ensures) (c .before .before .before .before .before .before .before .m .given .0 .0) (c .before .before .before .before .before .before .before .m .given .0 .1 .0) (search needs) (search) in (w .1, (w .0, fresh-set (a .row .now) _ (c .before .before .before .before .before .before .before .m .given .0 .0) (search needs) (c .before .before .before .before .put-u16 .ensures)))
 
--- src/kinds.rt:138:18
 enum-known-p : tie.Need-enum-known-p
 enum-known-p c = search needs
 
--- src/kinds.rt:128:1
 same-length : tie.Need-same-length
 same-length c = search needs
 
--- src/kinds.rt:128:1
 same-length-2 : tie.Need-same-length-2
 same-length-2 c = search needs
 
--- src/kinds.rt:128:1
 returns : tie.Need-returns
 returns c = let a = c .before .before .before .before .before .before .before .before .before .before .before .before .before .before .before .before .args in entry-got (a .s .now) (a .at) (a .kind) _ (c .before .before .before .before .before .before .before .before .before .before .before .before .before .mode-at .ensures) (a .row .now) _ (a .arena .now) _ (c .before .before .before .before .before .before .before .before .before .before .before .m .given .0 .0) (c .before .before .before .before .before .before .before .before .before .before .before .m .given .0 .1 .0) (search) _ (c .before .before .before .before .before .before .before .before .put-u16 .ensures) _ (c .before .before .before .parts-at .ensures .0, c .before .before .before .parts-at .ensures .1)
 
--- src/kinds.rt:128:1
 returns-2 : tie.Need-returns-2
 returns-2 c = let a = c .before .before .before .before .before .before .args in entry-bad (a .s .now) (a .at) (a .kind) _ (c .before .before .before .mode-at .ensures) (a .row .now) _ (a .arena .now) _ _ (search)
 

@@ -1,3 +1,4 @@
+-- `record::kinds::number_count` meets its contract. Assumes nothing.
 use mathlib.Core.Path.{refl}
 use Rattle.record.proofs.FlatLaws.{fixed-small}
 use native.Mathlib.Omega.{arith}
@@ -7,31 +8,24 @@ use Rattle.record.proofs.kinds.number_count.Tie as tie
 use Rattle.record.proofs.kinds.number_count.Reads as reads
 use Rattle.record.proofs.kinds.number_count.Lts as lts
 
--- src/kinds.rt:80:5
 mul-result : tie.Need-mul-result
 mul-result c = search needs
 
--- src/kinds.rt:80:5
 array-read-result : tie.Need-array-read-result
 array-read-result c = search needs
 
--- src/kinds.rt:80:27
 mul-result-2 : tie.Need-mul-result-2
 mul-result-2 c = search needs
 
--- src/kinds.rt:80:5
 add-result : tie.Need-add-result
 add-result c = record { fits = omega (arith, fixed-small (c .args .mode)) }
 
--- src/kinds.rt:80:46
 mul-result-3 : tie.Need-mul-result-3
 mul-result-3 c = search needs
 
--- src/kinds.rt:80:5
 add-result-2 : tie.Need-add-result-2
 add-result-2 c = record { fits = omega (arith, fixed-small (c .args .mode)) }
 
--- src/kinds.rt:76:1
 returns : tie.Need-returns
 returns c = (refl, omega (arith, fixed-small (c .args .mode)))
 

@@ -1,3 +1,4 @@
+-- `record::kinds::part_at` meets its contract. Assumes nothing.
 use native.Mathlib.Omega.{arith}
 use Rattle.record.proofs.PartPlaces.{part-all, part-fits}
 use borrow.Author.Needs.{needs}
@@ -9,23 +10,18 @@ use Rattle.record.proofs.kinds.sample_count.Reads as sample-count-reads
 use Rattle.record.proofs.kinds.samples_at.Reads as samples-at-reads
 use Rattle.transform.proofs.Kind.arena_start.Reads as arena-start-reads
 
--- src/kinds.rt:102:9
 sample-count-requires : tie.Need-sample-count-requires
 sample-count-requires c κs = search needs
 
--- src/kinds.rt:104:9
 arena-start-requires : tie.Need-arena-start-requires
 arena-start-requires c κs = search needs
 
--- src/kinds.rt:105:5
 samples-at-requires : tie.Need-samples-at-requires
 samples-at-requires c κs = let a = c .before .before .before .before .args in (search needs, omega (arith, part-fits (a .kind) (a .mode) _ (c .before .before .sample-count .ensures), c .before .arena-start .ensures))
 
--- src/kinds.rt:97:1
 same-length : tie.Need-same-length
 same-length c = search needs
 
--- src/kinds.rt:97:1
 returns : tie.Need-returns
 returns c = let a = c .before .before .before .before .before .before .args in part-all (a .s .now) (a .at) (a .kind) (a .mode) _ _ (a .arena .now) _ _ (c .before .before .before .before .sample-count .ensures) (c .before .before .before .arena-start .ensures) (c .before .samples-at .ensures .0) (c .before .samples-at .ensures .1)
 

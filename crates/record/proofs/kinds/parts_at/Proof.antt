@@ -1,3 +1,4 @@
+-- `record::kinds::parts_at` meets its contract. Assumes nothing.
 use Rattle.record.proofs.RowLaws.{two-at-most}
 use Rattle.record.proofs.PartPlaces.{bands-within, numbers-within, parts-bands, parts-numbers, parts-all}
 use native.Mathlib.Omega.{arith}
@@ -11,79 +12,60 @@ use Rattle.record.proofs.kinds.number_count.Reads as number-count-reads
 use Rattle.record.proofs.kinds.numbers_at.Reads as numbers-at-reads
 use Rattle.record.proofs.kinds.part_at.Reads as part-at-reads
 
--- src/kinds.rt:112:17
 mul-lists : tie.Need-mul-lists
 mul-lists c = search needs
 
--- src/kinds.rt:112:17
 array-read-lists : tie.Need-array-read-lists
 array-read-lists c = search needs
 
--- src/kinds.rt:113:11
 bands-at-requires : tie.Need-bands-at-requires
 bands-at-requires c κs = (search needs, omega (arith, two-at-most (c .before .before .before .args .mode)))
 
--- src/kinds.rt:114:19
 enum-known-p : tie.Need-enum-known-p
 enum-known-p c = search needs
 
--- src/kinds.rt:115:40
 slice-read-number-count : tie.Need-slice-read-number-count
 slice-read-number-count c = search needs
 
--- src/kinds.rt:115:48
 slice-read-number-count-2 : tie.Need-slice-read-number-count-2
 slice-read-number-count-2 c = search needs
 
--- src/kinds.rt:115:17
 number-count-requires : tie.Need-number-count-requires
 number-count-requires c κs = search needs
 
--- src/kinds.rt:116:19
 numbers-at-requires : tie.Need-numbers-at-requires
 numbers-at-requires c κs = let a = c .before .before .before .before .before .before .before .before .before .before .before .before .before .args in (bands-within (a .s .now) (a .at) (a .kind) (a .mode) (a .row .now) (a .row .now) (a .arena .now) (a .arena .now) _ (c .before .before .before .before .before .before .before .before .before .bands-at .ensures .0) (c .before .before .before .before .before .p .given .0 .0) (search needs) (search), omega (arith, c .before .number-count .ensures .1))
 
--- src/kinds.rt:117:27
 enum-known-q : tie.Need-enum-known-q
 enum-known-q c = search needs
 
--- src/kinds.rt:117:33
 part-at-requires : tie.Need-part-at-requires
 part-at-requires c κs = let a = c .before .before .before .before .before .before .before .before .before .before .before .before .before .before .before .before .before .before .before .before .args in numbers-within (a .s .now) (c .before .before .before .before .before .before .before .before .before .before .before .before .p .given .0 .0) (c .before .before .before .before .before .before .before .before .number-count .result) _ (c .before .before .q .given .0 .0) (bands-within (a .s .now) (a .at) (a .kind) (a .mode) (a .row .now) (a .row .now) (a .arena .now) (a .arena .now) _ (c .before .before .before .before .before .before .before .before .before .before .before .before .before .before .before .before .bands-at .ensures .0) (c .before .before .before .before .before .before .before .before .before .before .before .before .p .given .0 .0) (search needs) (search)) (c .before .before .before .before .before .before .numbers-at .ensures .0) (search)
 
--- src/kinds.rt:118:27
 enum-known-q-2 : tie.Need-enum-known-q-2
 enum-known-q-2 c = search needs
 
--- src/kinds.rt:121:19
 enum-known-p-2 : tie.Need-enum-known-p-2
 enum-known-p-2 c = search needs
 
--- src/kinds.rt:107:1
 same-length : tie.Need-same-length
 same-length c = search needs
 
--- src/kinds.rt:107:1
 same-length-2 : tie.Need-same-length-2
 same-length-2 c = search needs
 
--- src/kinds.rt:107:1
 returns : tie.Need-returns
 returns c = let a = c .before .before .before .before .before .before .before .before .before .before .before .before .before .before .before .before .before .before .before .before .before .before .args in parts-all (a .s .now) (a .at) (a .kind) (a .mode) (a .row .now) _ (a .arena .now) _ _ (c .before .before .before .before .before .before .before .before .before .before .before .before .before .before .before .before .before .before .bands-at .ensures .0) (c .before .before .before .before .before .before .before .before .before .before .before .before .before .before .p .given .0 .0) (search) (search) _ (c .before .before .before .before .before .before .before .before .before .before .before .before .before .before .before .before .before .before .bands-at .ensures .1) _ (c .before .before .before .before .before .before .before .before .before .before .number-count .ensures .0) _ (c .before .before .before .before .before .before .before .before .numbers-at .ensures .0) (c .before .before .before .before .q .given .0 .0) (search) (c .before .before .before .before .before .before .before .before .numbers-at .ensures .1) _ (c .before .part-at .ensures .0) (c .before .part-at .ensures .1)
 
--- src/kinds.rt:107:1
 same-length-3 : tie.Need-same-length-3
 same-length-3 c = search needs
 
--- src/kinds.rt:107:1
 returns-2 : tie.Need-returns-2
 returns-2 c = let a = c .before .before .before .before .before .before .before .before .before .before .before .before .before .before .before .before .before .before .before .args in parts-numbers (a .s .now) (a .at) (a .kind) (a .mode) (a .row .now) _ (a .arena .now) _ _ (c .before .before .before .before .before .before .before .before .before .before .before .before .before .before .before .bands-at .ensures .0) (c .before .before .before .before .before .before .before .before .before .before .before .p .given .0 .0) (search) (search) _ (c .before .before .before .before .before .before .before .before .before .before .before .before .before .before .before .bands-at .ensures .1) _ (c .before .before .before .before .before .before .before .number-count .ensures .0) _ (c .before .before .before .before .before .numbers-at .ensures .0) (c .before .q2 .given .0 .0) (search)
 
--- src/kinds.rt:107:1
 same-length-4 : tie.Need-same-length-4
 same-length-4 c = search needs
 
--- src/kinds.rt:107:1
 returns-3 : tie.Need-returns-3
 returns-3 c = let a = c .before .before .before .before .before .before .before .before .before .args in parts-bands (a .s .now) (a .at) (a .kind) (a .mode) (a .row .now) _ (a .arena .now) _ _ (c .before .before .before .before .before .bands-at .ensures .0) (c .before .p2 .given .0 .0) (search)
 

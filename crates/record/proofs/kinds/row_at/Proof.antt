@@ -1,3 +1,4 @@
+-- `record::kinds::row_at` meets its contract. Assumes nothing.
 use Rattle.record.proofs.PartPlaces.{row-got, row-bad}
 use borrow.Author.Needs.{needs}
 use Rattle.record.proofs.kinds.row_at.Statement.{statement}
@@ -7,51 +8,39 @@ use Rattle.record.proofs.kinds.row_at.Lts as lts
 use Rattle.record.proofs.kinds.entry_at.Reads as entry-at-reads
 use Rattle.record.proofs.kinds.put_numbers.Reads as put-numbers-reads
 
--- src/kinds.rt:159:33
 slice-aggregate-entry-at : tie.Need-slice-aggregate-entry-at
 slice-aggregate-entry-at c = search needs
 
--- src/kinds.rt:159:11
 entry-at-requires : tie.Need-entry-at-requires
 entry-at-requires c κs = search needs
 
--- src/kinds.rt:160:19
 enum-known-q : tie.Need-enum-known-q
 enum-known-q c = search needs
 
--- src/kinds.rt:161:31
 mul-put-numbers : tie.Need-mul-put-numbers
 mul-put-numbers c = search needs
 
--- src/kinds.rt:161:43
 slice-aggregate-put-numbers : tie.Need-slice-aggregate-put-numbers
 slice-aggregate-put-numbers c = search needs
 
--- src/kinds.rt:161:13
 put-numbers-requires : tie.Need-put-numbers-requires
 put-numbers-requires c κs = search needs
 
--- src/kinds.rt:164:19
 enum-known-q-2 : tie.Need-enum-known-q-2
 enum-known-q-2 c = search needs
 
--- src/kinds.rt:153:1
 same-length : tie.Need-same-length
 same-length c = search needs
 
--- src/kinds.rt:153:1
 same-length-2 : tie.Need-same-length-2
 same-length-2 c = search needs
 
--- src/kinds.rt:153:1
 returns : tie.Need-returns
 returns c = let a = c .before .before .before .before .before .before .before .before .before .before .before .before .before .before .before .args in row-got (a .s .now) (a .at) (a .kind) (a .rows .now) _ _ (a .arena .now) _ _ (search needs) (c .before .before .before .before .before .before .before .before .before .before .entry-at .ensures .0, c .before .before .before .before .before .before .before .before .before .before .entry-at .ensures .1) _ (search) (c .before .before .put-numbers .ensures)
 
--- src/kinds.rt:153:1
 same-length-3 : tie.Need-same-length-3
 same-length-3 c = search needs
 
--- src/kinds.rt:153:1
 returns-2 : tie.Need-returns-2
 returns-2 c = let a = c .before .before .before .before .before .before .before .before .before .before .args in row-bad (a .s .now) (a .at) (a .kind) (a .rows .now) _ _ (a .arena .now) _ _ (search needs) (c .before .before .before .before .before .entry-at .ensures .0, c .before .before .before .before .before .entry-at .ensures .1) _ (search)
 

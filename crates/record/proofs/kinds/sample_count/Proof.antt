@@ -1,3 +1,4 @@
+-- `record::kinds::sample_count` meets its contract. Assumes nothing.
 use Rattle.record.proofs.PartPlaces.{count-raw, count-none}
 use borrow.Author.Needs.{needs}
 use Rattle.record.proofs.kinds.sample_count.Statement.{statement}
@@ -6,15 +7,12 @@ use Rattle.record.proofs.kinds.sample_count.Reads as reads
 use Rattle.record.proofs.kinds.sample_count.Lts as lts
 use Rattle.transform.proofs.Kind.arena_length.Reads as arena-length-reads
 
--- src/kinds.rt:91:9
 arena-length-requires : tie.Need-arena-length-requires
 arena-length-requires c κs = search needs
 
--- src/kinds.rt:91:9
 returns : tie.Need-returns
 returns c = search (count-raw, needs)
 
--- src/kinds.rt:86:1
 returns-2 : tie.Need-returns-2
 returns-2 c = search (count-none, needs)
 

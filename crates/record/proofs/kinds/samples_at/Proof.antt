@@ -1,3 +1,4 @@
+-- `record::kinds::samples_at` meets its contract. Assumes nothing.
 use lib.IntN.{pos}
 use Rattle.record.specs.Number.{signed}
 use Rattle.record.specs.Text.{bytes}
@@ -11,39 +12,30 @@ use Rattle.record.proofs.kinds.samples_at.Lts as lts
 use Rattle.record.proofs.piece.fixed_at.Reads as fixed-at-reads
 use Rattle.record.proofs.piece.samples.Reads as samples-reads
 
--- src/kinds.rt:67:9
 returns : tie.Need-returns
 returns c = let a = c .before .before .args in line-none (bytes "samples=") (pos 0) signed (a .s .now) (a .at) (a .n) (a .out .now) (a .place) (c .if1 .taken)
 
--- src/kinds.rt:69:27
 slice-aggregate-fixed-at : tie.Need-slice-aggregate-fixed-at
 slice-aggregate-fixed-at c = search needs
 
--- src/kinds.rt:69:11
 fixed-at-requires : tie.Need-fixed-at-requires
 fixed-at-requires c κs = search needs
 
--- src/kinds.rt:70:19
 enum-known-p : tie.Need-enum-known-p
 enum-known-p c = search needs
 
--- src/kinds.rt:70:25
 samples-requires : tie.Need-samples-requires
 samples-requires c κs = (lit-within _ _ _ _ _ (search needs) (c .before .before .before .before .fixed-at .ensures) (search), search needs)
 
--- src/kinds.rt:71:19
 enum-known-p-2 : tie.Need-enum-known-p-2
 enum-known-p-2 c = search needs
 
--- src/kinds.rt:61:1
 same-length : tie.Need-same-length
 same-length c = search needs
 
--- src/kinds.rt:61:1
 returns-2 : tie.Need-returns-2
 returns-2 c = let a = c .before .before .before .before .before .before .before .before .before .before .args in line-items (bytes "samples=") (pos 0) signed (a .s .now) (a .at) (a .n) (a .out .now) (a .place) (c .before .before .before .before .before .before .before .before .if1 .left) _ (c .before .before .before .before .before .before .fixed-at .ensures) _ (search) _ _ (c .before .samples .ensures .0) (c .before .samples .ensures .1)
 
--- src/kinds.rt:61:1
 returns-3 : tie.Need-returns-3
 returns-3 c = let a = c .before .before .before .before .before .before .before .args in line-name (bytes "samples=") (pos 0) signed (a .s .now) (a .at) (a .n) (a .out .now) (a .place) (c .before .before .before .before .before .if1 .left) _ (c .before .before .before .fixed-at .ensures) _ (search)
 

@@ -1,4 +1,4 @@
--- `record::byte_at` meets its contract. Assumes nothing.
+-- `record::piece::byte_at` meets its contract. Assumes nothing.
 use borrow.Author.Needs.{needs}
 use native.Mathlib.Omega.{arith}
 use lib.ListN.{List·getD-eq-default}

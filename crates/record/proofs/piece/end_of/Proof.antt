@@ -1,4 +1,4 @@
--- `record::end_of` meets its contract. Assumes nothing.
+-- `record::piece::end_of` meets its contract. Assumes nothing.
 use borrow.Author.Needs.{needs}
 use native.Mathlib.Omega.{arith}
 use Rattle.record.proofs.Places.{end-more}

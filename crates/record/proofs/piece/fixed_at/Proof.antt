@@ -1,3 +1,4 @@
+-- `record::piece::fixed_at` meets its contract. Assumes nothing.
 use native.Mathlib.Omega.{arith}
 use Rattle.record.proofs.Framed.{fixed-bad, fixed-got, fixed-fits}
 use borrow.Author.Needs.{needs}
@@ -7,23 +8,18 @@ use Rattle.record.proofs.piece.fixed_at.Reads as reads
 use Rattle.record.proofs.piece.fixed_at.Lts as lts
 use Rattle.record.proofs.piece.shared_at.Reads as shared-at-reads
 
--- src/piece.rt:305:9
 shared-at-requires : tie.Need-shared-at-requires
 shared-at-requires c κs = search needs
 
--- src/piece.rt:307:26
 add-t7 : tie.Need-add-t7
 add-t7 c = search needs
 
--- src/piece.rt:307:9
 returns : tie.Need-returns
 returns c = search (fixed-bad, needs)
 
--- src/piece.rt:309:15
 add-t5 : tie.Need-add-t5
 add-t5 c = let a = c .before .before .before .before .args in record { fits = omega (arith, fixed-fits (a .s .now) (a .w .now) (a .at) _ (c .before .shared-at .ensures) (search needs)) }
 
--- src/piece.rt:301:1
 returns-2 : tie.Need-returns-2
 returns-2 c = search (fixed-got, needs)
 

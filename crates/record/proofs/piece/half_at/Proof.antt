@@ -1,4 +1,4 @@
--- `record::half_at` meets its contract. Assumes nothing.
+-- `record::piece::half_at` meets its contract. Assumes nothing.
 use borrow.Author.Needs.{needs}
 use native.Mathlib.Omega.{arith}
 use Rattle.record.proofs.HalfPlaces.{half-1, half-2, half-3, half-4, half-5, half-6, half-7}

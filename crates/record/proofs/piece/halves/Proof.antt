@@ -1,4 +1,4 @@
--- `record::halves` meets its contract: the loop of `ItemPlaces`, over half floats. Assumes nothing.
+-- `record::piece::halves` meets its contract: the loop of `ItemPlaces`, over half floats. Assumes nothing.
 use mathlib.Core.Path.{_≡_, refl, sym, ap, _∙_, subst}
 use mathlib.Core.List.{List}
 use Prim.Native.Nat.{ℕ, _+_, _-_, _≤_, _<_}

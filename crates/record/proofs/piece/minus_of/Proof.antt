@@ -1,4 +1,4 @@
--- `record::minus_of` meets its contract. Assumes nothing.
+-- `record::piece::minus_of` meets its contract. Assumes nothing.
 use borrow.Author.Needs.{needs}
 use native.Mathlib.Omega.{arith}
 use mathlib.Core.Path.{_≡_, _∙_, sym, ap, subst⁻¹}

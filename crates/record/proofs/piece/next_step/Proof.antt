@@ -1,4 +1,4 @@
--- `record::next_step` meets its contract. Assumes nothing.
+-- `record::piece::next_step` meets its contract. Assumes nothing.
 use mathlib.Core.Path.{sym}
 use native.Mathlib.Omega.{arith}
 use borrow.Author.Needs.{needs}
@@ -8,43 +8,33 @@ use Rattle.record.proofs.piece.next_step.Tie as tie
 use Rattle.record.proofs.piece.next_step.Reads as reads
 use Rattle.record.proofs.piece.next_step.Lts as lts
 
--- src/lib.rt:47:13
 returns : tie.Need-returns
 returns c = sym (search (next-last, needs))
 
--- src/lib.rt:49:9
 returns-2 : tie.Need-returns-2
 returns-2 c = sym (search (next-empty, needs))
 
--- src/lib.rt:52:9
 returns-3 : tie.Need-returns-3
 returns-3 c = sym (search (next-low, needs))
 
--- src/lib.rt:55:9
 returns-4 : tie.Need-returns-4
 returns-4 c = sym (search (next-high, needs))
 
--- src/lib.rt:57:13
 mul-k : tie.Need-mul-k
 mul-k c = search needs
 
--- src/lib.rt:57:23
 cast-k : tie.Need-cast-k
 cast-k c = search needs
 
--- src/lib.rt:57:13
 add-k : tie.Need-add-k
 add-k c = search needs
 
--- src/lib.rt:59:9
 returns-5 : tie.Need-returns-5
 returns-5 c = sym (search (next-zero, needs))
 
--- src/lib.rt:62:9
 returns-6 : tie.Need-returns-6
 returns-6 c = sym (search (next-above, needs))
 
--- src/lib.rt:41:1
 returns-7 : tie.Need-returns-7
 returns-7 c = sym (search (next-goes, needs))
 

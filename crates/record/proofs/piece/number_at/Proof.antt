@@ -1,4 +1,4 @@
--- `record::number_at` meets its contract: reading from the start is reading on from here. Assumes nothing.
+-- `record::piece::number_at` meets its contract: reading from the start is reading on from here. Assumes nothing.
 use mathlib.Core.Path.{_≡_, refl, sym, ap, _∙_}
 use Prim.Native.Nat.{_+_, _-_, _≤_, _<_}
 use native.Mathlib.Omega.{arith}
@@ -22,55 +22,42 @@ Inv-loop s at limit end m₀ i₀ m i =
 abbrev μ-loop : tie.MeasureT-loop
 μ-loop s at limit end m₀ i₀ m i = length s - i
 
--- src/lib.rt:74:5
 loop-holds : tie.Need-loop-holds Inv-loop μ-loop
 loop-holds c = (search needs, search needs, search needs, search needs, rw (sub-self (c .before .args .at)))
 
--- src/lib.rt:75:17
 shared-slice-read-b : tie.Need-shared-slice-read-b Inv-loop μ-loop
 shared-slice-read-b c = search needs
 
--- src/lib.rt:76:15
 next-step-requires : tie.Need-next-step-requires Inv-loop μ-loop
 next-step-requires c κs = search needs
 
--- src/lib.rt:78:36
 enum-told : tie.Need-enum-told Inv-loop μ-loop
 enum-told c = search needs
 
--- src/lib.rt:78:36
 add-t14 : tie.Need-add-t14 Inv-loop μ-loop
 add-t14 c = search needs
 
--- src/lib.rt:78:17
 returns : tie.Need-returns Inv-loop μ-loop
 returns c = search (number-got, needs)
 
--- src/lib.rt:81:17
 enum-told-2 : tie.Need-enum-told-2 Inv-loop μ-loop
 enum-told-2 c = search needs
 
--- src/lib.rt:81:17
 returns-2 : tie.Need-returns-2 Inv-loop μ-loop
 returns-2 c = search (number-bad, needs)
 
--- src/lib.rt:83:22
 enum-known-k : tie.Need-enum-known-k Inv-loop μ-loop
 enum-known-k c = search needs
 
--- src/lib.rt:87:9
 add-i : tie.Need-add-i Inv-loop μ-loop
 add-i c = search needs
 
--- src/lib.rt:74:5
 loop-less : tie.Need-loop-less Inv-loop μ-loop
 loop-less c = search needs
 
--- src/lib.rt:74:5
 loop-again : tie.Need-loop-again Inv-loop μ-loop
 loop-again c = (search needs, search needs, search (on-limit, needs), search needs, search (number-on, needs))
 
--- src/lib.rt:68:1
 returns-3 : tie.Need-returns-3 Inv-loop μ-loop
 returns-3 c = search (number-out, needs)
 

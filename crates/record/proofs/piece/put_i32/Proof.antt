@@ -1,4 +1,4 @@
--- `record::put_i32` meets its contract. Assumes nothing.
+-- `record::piece::put_i32` meets its contract. Assumes nothing.
 use borrow.Author.Needs.{needs}
 use native.Mathlib.Omega.{arith}
 use lib.Seq.{set-out}

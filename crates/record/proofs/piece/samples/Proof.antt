@@ -1,4 +1,4 @@
--- `record::samples` meets its contract: the loop of `ItemPlaces`, over samples. Assumes nothing.
+-- `record::piece::samples` meets its contract: the loop of `ItemPlaces`, over samples. Assumes nothing.
 use mathlib.Core.Path.{_≡_, refl, sym, ap, _∙_, subst, subst⁻¹}
 use mathlib.Core.List.{List}
 use Prim.Native.Nat.{ℕ, _+_, _-_, _≤_, _<_}

@@ -1,4 +1,4 @@
--- `record::second_at` meets its contract. Assumes nothing.
+-- `record::piece::second_at` meets its contract. Assumes nothing.
 use borrow.Author.Needs.{needs}
 use native.Mathlib.Omega.{arith}
 use Rattle.record.proofs.HalfPlaces.{second-stop, second-less, second-free}

@@ -1,4 +1,4 @@
--- `record::shared_at` meets its contract: what is shared is what is passed and what the rests share. Assumes nothing.
+-- `record::piece::shared_at` meets its contract: what is shared is what is passed and what the rests share. Assumes nothing.
 use mathlib.Core.Path.{_≡_, refl, sym, ap, _∙_}
 use Prim.Native.Nat.{_+_, _-_, _≤_, _<_}
 use native.Mathlib.Omega.{arith}
@@ -17,47 +17,36 @@ Inv-loop s at w i₀ i = (i ≤ length w) × (at ≤ length s) × (shared (drop 
 abbrev μ-loop : tie.MeasureT-loop
 μ-loop s at w i₀ i = length w - i
 
--- src/lib.rt:28:5
 loop-holds : tie.Need-loop-holds Inv-loop μ-loop
 loop-holds c = (search needs, search needs, passed-start (c .args .s .now) (c .args .w .now) (c .args .at))
 
--- src/lib.rt:29:12
 sub-if1 : tie.Need-sub-if1 Inv-loop μ-loop
 sub-if1 c = search needs
 
--- src/lib.rt:30:13
 returns : tie.Need-returns Inv-loop μ-loop
 returns c = search (passed-out, needs)
 
--- src/lib.rt:32:14
 add-if2 : tie.Need-add-if2 Inv-loop μ-loop
 add-if2 c = search needs
 
--- src/lib.rt:32:12
 shared-slice-read-if2 : tie.Need-shared-slice-read-if2 Inv-loop μ-loop
 shared-slice-read-if2 c = search needs
 
--- src/lib.rt:32:25
 shared-slice-read-if2-2 : tie.Need-shared-slice-read-if2-2 Inv-loop μ-loop
 shared-slice-read-if2-2 c = search needs
 
--- src/lib.rt:33:13
 returns-2 : tie.Need-returns-2 Inv-loop μ-loop
 returns-2 c = passed-end _ _ _ _ (c .before .before .before .before .before .loop .inv .2) (omega arith) (omega arith) (c .if2 .taken)
 
--- src/lib.rt:35:9
 add-i : tie.Need-add-i Inv-loop μ-loop
 add-i c = search needs
 
--- src/lib.rt:28:5
 loop-less : tie.Need-loop-less Inv-loop μ-loop
 loop-less c = search needs
 
--- src/lib.rt:28:5
 loop-again : tie.Need-loop-again Inv-loop μ-loop
 loop-again c = (search needs, search needs, passed-on _ _ _ _ (c .before .before .before .before .before .loop .inv .2) (omega arith) (omega arith) (c .if2 .left))
 
--- src/lib.rt:23:1
 returns-3 : tie.Need-returns-3 Inv-loop μ-loop
 returns-3 c = search (passed-all, needs)
 

@@ -1,3 +1,4 @@
+-- `record::put::magnitude_of` meets its contract. Assumes nothing.
 use Rattle.record.proofs.SignPlaces.{as-wide, turned-fits, turned-cast, turned-size, kept-cast, kept-size, below-of, above-of}
 use borrow.Author.Needs.{needs}
 use Rattle.record.proofs.put.magnitude_of.Statement.{statement}

@@ -1,4 +1,4 @@
--- `record::put_bytes` meets its contract: what is passed is stored. Assumes nothing.
+-- `record::put::put_bytes` meets its contract: what is passed is stored. Assumes nothing.
 use mathlib.Core.Path.{_≡_, refl, sym, ap, _∙_}
 use Prim.Native.Nat.{ℕ, _+_, _-_, _≤_, _<_}
 use native.Mathlib.Omega.{arith}

@@ -1,4 +1,4 @@
--- `record::put_sample` meets its contract. Assumes nothing.
+-- `record::put::put_sample` meets its contract. Assumes nothing.
 use native.Mathlib.Omega.{arith}
 use Rattle.record.proofs.Stores.{digits-length}
 use Rattle.record.proofs.SampleStores.{size-bound, wrote-zero, wrote-minus, wrote-plus}

@@ -1,4 +1,4 @@
--- `record::put_samples` meets its contract: the loop of `ItemStores`, over samples. Assumes nothing.
+-- `record::put::put_samples` meets its contract: the loop of `ItemStores`, over samples. Assumes nothing.
 use mathlib.Core.Path.{_≡_, refl, sym, ap, _∙_, subst⁻¹}
 use Prim.Native.Nat.{ℕ, _+_, _*_, _-_, _≤_, _<_}
 use native.Mathlib.Omega.{arith}

@@ -1,3 +1,4 @@
+-- `record::put::put_u8` meets its contract. Assumes nothing.
 use borrow.Author.Needs.{needs}
 use lib.Seq.{set-out}
 use mathlib.Core.Path.{sym}
@@ -6,19 +7,15 @@ use Rattle.record.proofs.put.put_u8.Tie as tie
 use Rattle.record.proofs.put.put_u8.Reads as reads
 use Rattle.record.proofs.put.put_u8.Lts as lts
 
--- src/lib.rt:305:9
 slice-write-out : tie.Need-slice-write-out
 slice-write-out c = search needs
 
--- src/lib.rt:301:1
 same-length : tie.Need-same-length
 same-length c = search needs
 
--- src/lib.rt:301:1
 returns : tie.Need-returns
 returns c = search needs
 
--- src/lib.rt:301:1
 returns-2 : tie.Need-returns-2
 returns-2 c = sym (search (set-out, needs))
 

@@ -1,3 +1,4 @@
+-- `record::reader::any_raw` meets its contract. Assumes nothing.
 use mathlib.Core.Path.{_≡_}
 use lib.ListN.{length}
 use Prim.Native.Nat.{_≤_, _-_}
@@ -16,39 +17,30 @@ Inv-loop rows kind₀ kind = (kind ≤ 17) × (length rows ≡ 2176) × (before 
 abbrev μ-loop : tie.MeasureT-loop
 μ-loop rows kind₀ kind = 17 - kind
 
--- src/reader.rt:85:5
 loop-holds : tie.Need-loop-holds Inv-loop μ-loop
 loop-holds c = (search needs, search needs, raw-start (c .args .rows .now))
 
--- src/reader.rt:86:17
 mul-if1 : tie.Need-mul-if1 Inv-loop μ-loop
 mul-if1 c = search needs
 
--- src/reader.rt:86:12
 mul-if1-2 : tie.Need-mul-if1-2 Inv-loop μ-loop
 mul-if1-2 c = search needs
 
--- src/reader.rt:86:12
 shared-slice-read-if1 : tie.Need-shared-slice-read-if1 Inv-loop μ-loop
 shared-slice-read-if1 c = search needs
 
--- src/reader.rt:87:13
 returns : tie.Need-returns Inv-loop μ-loop
 returns c = search (raw-here, needs)
 
--- src/reader.rt:89:9
 add-kind : tie.Need-add-kind Inv-loop μ-loop
 add-kind c = search needs
 
--- src/reader.rt:85:5
 loop-less : tie.Need-loop-less Inv-loop μ-loop
 loop-less c = search needs
 
--- src/reader.rt:85:5
 loop-again : tie.Need-loop-again Inv-loop μ-loop
 loop-again c = (search needs, search needs, search (raw-on, needs))
 
--- src/reader.rt:80:1
 returns-2 : tie.Need-returns-2 Inv-loop μ-loop
 returns-2 c = search (raw-none, needs)
 

@@ -1,3 +1,4 @@
+-- `record::reader::is_lent` meets its contract. Assumes nothing.
 use borrow.Author.Needs.{needs}
 use Rattle.record.proofs.ReadPlaces.{lent-rows, lent-full, lent-other}
 use Rattle.record.proofs.reader.is_lent.Statement.{statement}
@@ -5,15 +6,12 @@ use Rattle.record.proofs.reader.is_lent.Tie as tie
 use Rattle.record.proofs.reader.is_lent.Reads as reads
 use Rattle.record.proofs.reader.is_lent.Lts as lts
 
--- src/reader.rt:99:9
 returns : tie.Need-returns
 returns c = search (lent-rows, needs)
 
--- src/reader.rt:102:9
 returns-2 : tie.Need-returns-2
 returns-2 c = search (lent-full, needs)
 
--- src/reader.rt:95:1
 returns-3 : tie.Need-returns-3
 returns-3 c = search (lent-other, needs)
 

@@ -1,3 +1,4 @@
+-- `record::reader::kinds_at` meets its contract. Assumes nothing.
 use mathlib.Core.Path.{_≡_, refl}
 use lib.ListN.{length}
 use Prim.Native.Nat.{_≤_, _-_}
@@ -17,55 +18,42 @@ Inv-loop s at rows₀ arena₀ kind₀ p₀ rows arena kind p = (kind ≤ 17) ×
 abbrev μ-loop : tie.MeasureT-loop
 μ-loop s at rows₀ arena₀ kind₀ p₀ rows arena kind p = 17 - kind
 
--- src/reader.rt:38:5
 loop-holds : tie.Need-loop-holds Inv-loop μ-loop
 loop-holds c = let a = c .before .before .args in (search needs, search needs, refl, refl, walked-start store (a .s .now) (a .at) 17 (a .rows .now, a .arena .now) (search needs))
 
--- src/reader.rt:39:15
 row-at-requires : tie.Need-row-at-requires Inv-loop μ-loop
 row-at-requires c κs = (c .before .before .before .loop .inv .4 .within, search needs)
 
--- src/reader.rt:40:23
 enum-known-q : tie.Need-enum-known-q Inv-loop μ-loop
 enum-known-q c = search needs
 
--- src/reader.rt:43:23
 enum-known-q-2 : tie.Need-enum-known-q-2 Inv-loop μ-loop
 enum-known-q-2 c = search needs
 
--- src/reader.rt:44:17
 same-length : tie.Need-same-length Inv-loop μ-loop
 same-length c = search needs
 
--- src/reader.rt:44:17
 same-length-2 : tie.Need-same-length-2 Inv-loop μ-loop
 same-length-2 c = search needs
 
--- src/reader.rt:44:17
 returns : tie.Need-returns Inv-loop μ-loop
 returns c = let a = c .before .before .before .before .before .before .before .before .before .before .before .before .before .args in kinds-bad (a .s .now) (a .at) (a .rows .now) (a .arena .now) _ _ _ _ (c .before .before .before .before .before .before .before .before .before .before .loop .inv .4) _ (c .before .q2 .given .0 .0) (search needs) (c .before .before .before .before .before .before .row-at .ensures .0) (search) _ _
 
--- src/reader.rt:47:9
 add-kind : tie.Need-add-kind Inv-loop μ-loop
 add-kind c = search needs
 
--- src/reader.rt:38:5
 loop-less : tie.Need-loop-less Inv-loop μ-loop
 loop-less c = search needs
 
--- src/reader.rt:38:5
 loop-again : tie.Need-loop-again Inv-loop μ-loop
 loop-again c = let a = c .before .before .before .before .before .before .before .before .before .before .before .before .before .args in (search needs, search needs, search needs, search needs, kinds-on (a .s .now) (a .at) (a .rows .now) (a .arena .now) _ _ _ _ (c .before .before .before .before .before .before .before .before .before .before .loop .inv .4) _ (c .before .q .given .0 .0) (search needs) (c .before .before .before .before .before .before .row-at .ensures .0) (search) _ _ (c .before .before .before .before .before .before .row-at .ensures .1))
 
--- src/reader.rt:31:1
 same-length-3 : tie.Need-same-length-3 Inv-loop μ-loop
 same-length-3 c = search needs
 
--- src/reader.rt:31:1
 same-length-4 : tie.Need-same-length-4 Inv-loop μ-loop
 same-length-4 c = search needs
 
--- src/reader.rt:31:1
 returns-2 : tie.Need-returns-2 Inv-loop μ-loop
 returns-2 c = let a = c .before .before .before .before .args in kinds-done (a .s .now) (a .at) (a .rows .now) (a .arena .now) _ _ _ _ (c .before .loop .inv .4) (c .loop-test .left) (search needs)
 

@@ -1,3 +1,4 @@
+-- `record::reader::no_room` meets its contract. Assumes nothing.
 use Rattle.record.proofs.ReadPlaces.{room-raw, room-none}
 use borrow.Author.Needs.{needs}
 use Rattle.record.proofs.reader.no_room.Statement.{statement}
@@ -6,15 +7,12 @@ use Rattle.record.proofs.reader.no_room.Reads as reads
 use Rattle.record.proofs.reader.no_room.Lts as lts
 use Rattle.record.proofs.reader.any_raw.Reads as any-raw-reads
 
--- src/reader.rt:112:8
 any-raw-requires : tie.Need-any-raw-requires
 any-raw-requires c κs = search needs
 
--- src/reader.rt:113:9
 returns : tie.Need-returns
 returns c = search (room-raw, needs)
 
--- src/reader.rt:108:1
 returns-2 : tie.Need-returns-2
 returns-2 c = search (room-none, needs)
 

@@ -1,3 +1,4 @@
+-- `record::reader::read_record` meets its contract. Assumes nothing.
 use lib.ListN.{length}
 use mathlib.Core.Path.{sym, _∙_}
 use Rattle.record.proofs.ReadPlaces.{lent-long, read-lent, read-bad, read-more, read-room, read-done, none-before}
@@ -10,87 +11,66 @@ use Rattle.record.proofs.reader.is_lent.Reads as is-lent-reads
 use Rattle.record.proofs.reader.no_room.Reads as no-room-reads
 use Rattle.record.proofs.reader.walk.Reads as walk-reads
 
--- src/reader.rt:125:8
 is-lent-requires : tie.Need-is-lent-requires
 is-lent-requires c κs = search needs
 
--- src/reader.rt:126:9
 returns : tie.Need-returns
 returns c = let a = c .before .before .before .before .args in read-lent (a .rows .now) (a .samples .now) (a .text .now) _ (c .before .is-lent .ensures) (c .if1 .taken)
 
--- src/reader.rt:129:22
 slice-aggregate-walk : tie.Need-slice-aggregate-walk
 slice-aggregate-walk c = search needs
 
--- src/reader.rt:129:33
 sub-walk : tie.Need-sub-walk
 sub-walk c = search needs
 
--- src/reader.rt:129:33
 part-walk-start : tie.Need-part-walk-start
 part-walk-start c = search needs
 
--- src/reader.rt:129:33
 part-walk-end : tie.Need-part-walk-end
 part-walk-end c = search needs
 
--- src/reader.rt:129:11
 walk-requires : tie.Need-walk-requires
 walk-requires c κs = search needs
 
--- src/reader.rt:130:19
 enum-known-q : tie.Need-enum-known-q
 enum-known-q c = search needs
 
--- src/reader.rt:132:17
 same-length : tie.Need-same-length
 same-length c = search needs
 
--- src/reader.rt:132:17
 returns-2 : tie.Need-returns-2
 returns-2 c = let a = c .before .before .before .before .before .before .before .before .before .before .before .before .before .args in read-more (a .rows .now) (a .samples .now) (a .text .now) _ (c .before .before .before .before .before .before .before .before .before .before .is-lent .ensures) (c .before .before .before .before .before .before .before .before .before .if1 .left) _ (c .before .before .before .before .before .before .walk .ensures .0) (c .before .before .q .given .0 .0) (search) _ (c .if2 .taken) (none-before (c .before .before .before .before .before .before .walk .last .1 .1 .0) _ (c .before .before .before .before .before .before .walk .kept .1 .1 .0))
 
--- src/reader.rt:134:24
 slice-aggregate-no-room : tie.Need-slice-aggregate-no-room
 slice-aggregate-no-room c = search needs
 
--- src/reader.rt:134:16
 no-room-requires : tie.Need-no-room-requires
 no-room-requires c κs = search needs
 
--- src/reader.rt:135:17
 same-length-2 : tie.Need-same-length-2
 same-length-2 c = search needs
 
--- src/reader.rt:135:17
 returns-3 : tie.Need-returns-3
 returns-3 c = let a = c .before .before .before .before .before .before .before .before .before .before .before .before .before .before .before .before .args in read-room (a .rows .now) (a .samples .now) (a .text .now) _ (c .before .before .before .before .before .before .before .before .before .before .before .before .before .is-lent .ensures) (c .before .before .before .before .before .before .before .before .before .before .before .before .if1 .left) _ (c .before .before .before .before .before .before .before .before .before .walk .ensures .0) (c .before .before .before .before .before .q .given .0 .0) (search) (c .before .before .before .if2 .left) _ _ _ (c .before .before .before .before .before .before .before .before .before .walk .ensures .1) _ (c .before .no-room .ensures) _ (c .if3 .taken) (none-before (c .before .before .before .before .before .before .before .before .before .walk .last .1 .1 .0) _ (c .before .before .before .before .before .before .before .before .before .walk .kept .1 .1 .0))
 
--- src/reader.rt:138:19
 enum-known-q-2 : tie.Need-enum-known-q-2
 enum-known-q-2 c = search needs
 
--- src/reader.rt:139:13
 same-length-3 : tie.Need-same-length-3
 same-length-3 c = search needs
 
--- src/reader.rt:139:13
 returns-4 : tie.Need-returns-4
 returns-4 c = let a = c .before .before .before .before .before .before .before .before .before .before .before .before .args in read-bad (a .rows .now) (a .samples .now) (a .text .now) _ (c .before .before .before .before .before .before .before .before .before .is-lent .ensures) (c .before .before .before .before .before .before .before .before .if1 .left) _ (c .before .before .before .before .before .walk .ensures .0) (c .before .q2 .given .0 .0) _ (search) (none-before (c .before .before .before .before .before .walk .last .1 .1 .0) _ (c .before .before .before .before .before .walk .kept .1 .1 .0))
 
--- src/reader.rt:142:5
 walk-requires-2 : tie.Need-walk-requires-2
 walk-requires-2 c κs = let a = c .before .before .before .before .before .before .before .before .before .before .before .before .before .before .before .before .before .before .args in lent-long (length (a .rows .now)) (length (a .samples .now)) (sym (c .before .before .before .before .before .before .before .before .before .before .before .before .before .before .if1 .left) ∙ c .before .before .before .before .before .before .before .before .before .before .before .before .before .before .before .is-lent .ensures)
 
--- src/reader.rt:119:1
 same-length-4 : tie.Need-same-length-4
 same-length-4 c = search needs
 
--- src/reader.rt:119:1
 same-length-5 : tie.Need-same-length-5
 same-length-5 c = search needs
 
--- src/reader.rt:119:1
 returns-5 : tie.Need-returns-5
 returns-5 c = let a = c .before .before .before .before .before .before .before .before .before .before .before .before .before .before .before .before .before .before .before .before .before .before .args in read-done (a .rows .now) (a .samples .now) (a .text .now) _ (c .before .before .before .before .before .before .before .before .before .before .before .before .before .before .before .before .before .before .before .is-lent .ensures) (c .before .before .before .before .before .before .before .before .before .before .before .before .before .before .before .before .before .before .if1 .left) _ (c .before .before .before .before .before .before .before .before .before .before .before .before .before .before .before .walk .ensures .0) (c .before .before .before .before .before .before .before .before .before .before .before .q .given .0 .0) (search) (c .before .before .before .before .before .before .before .before .before .if2 .left) _ _ _ (c .before .before .before .before .before .before .before .before .before .before .before .before .before .before .before .walk .ensures .1) _ (c .before .before .before .before .before .before .before .no-room .ensures) (c .before .before .before .before .before .before .if3 .left) _ _ _ (none-before (c .before .before .before .before .before .before .before .before .before .before .before .before .before .before .before .walk .last .1 .1 .0) _ (c .before .before .before .before .before .before .before .before .before .before .before .before .before .before .before .walk .kept .1 .1 .0)) (c .before .before .before .walk2 .ensures .1)
 

@@ -1,3 +1,4 @@
+-- `record::reader::walk` meets its contract. Assumes nothing.
 use mathlib.Core.Path.{refl}
 use Rattle.record.proofs.WalkPlaces.{walk-default, header-within, walk-kinds, walk-head}
 use borrow.Author.Needs.{needs}
@@ -9,47 +10,36 @@ use Rattle.record.proofs.fixed.header_at.Reads as header-at-reads
 use Rattle.record.proofs.reader.kinds_at.Reads as kinds-at-reads
 use Rattle.record.proofs.reader.put_default.Reads as put-default-reads
 
--- src/reader.rt:67:11
 header-at-requires : tie.Need-header-at-requires
 header-at-requires c κs = search needs
 
--- src/reader.rt:68:18
 enum-known-d : tie.Need-enum-known-d
 enum-known-d c = search needs
 
--- src/reader.rt:70:17
 put-default-requires : tie.Need-put-default-requires
 put-default-requires c κs = search needs
 
--- src/reader.rt:71:17
 same-length : tie.Need-same-length
 same-length c = search needs
 
--- src/reader.rt:71:17
 returns : tie.Need-returns
 returns c = let a = c .before .before .before .before .before .before .before .before .before .before .before .args in walk-default (a .s .now) _ (c .before .before .before .before .before .before .before .before .header-at .ensures) (a .rows .now) _ (a .arena .now) _ (c .before .before .before .before .before .before .d .given .0 .0) (c .before .before .before .before .before .before .d .given .0 .1 .0) (search) (c .before .before .before .before .if1 .taken) (search needs) (c .before .before .put-default .ensures) refl
 
--- src/reader.rt:73:13
 kinds-at-requires : tie.Need-kinds-at-requires
 kinds-at-requires c κs = let a = c .before .before .before .before .before .before .before .before .before .args in header-within (a .s .now) _ (c .before .before .before .before .before .before .header-at .ensures) (a .rows .now) (a .rows .now) (a .arena .now) (a .arena .now) (c .before .before .before .before .d .given .0 .0) (c .before .before .before .before .d .given .0 .1 .0) (search)
 
--- src/reader.rt:75:18
 enum-known-p : tie.Need-enum-known-p
 enum-known-p c = search needs
 
--- src/reader.rt:62:1
 same-length-2 : tie.Need-same-length-2
 same-length-2 c = search needs
 
--- src/reader.rt:62:1
 same-length-3 : tie.Need-same-length-3
 same-length-3 c = search needs
 
--- src/reader.rt:62:1
 returns-2 : tie.Need-returns-2
 returns-2 c = let a = c .before .before .before .before .before .before .before .before .before .before .before .before .before .args in walk-kinds (a .s .now) _ (c .before .before .before .before .before .before .before .before .before .before .header-at .ensures) (a .rows .now) _ (a .arena .now) _ (c .before .before .before .before .before .before .before .before .d .given .0 .0) (c .before .before .before .before .before .before .before .before .d .given .0 .1 .0) (search) (c .before .before .before .before .before .before .if1 .left) (search needs) _ (c .before .before .before .kinds-at .ensures .0, c .before .before .before .kinds-at .ensures .1)
 
--- src/reader.rt:62:1
 returns-3 : tie.Need-returns-3
 returns-3 c = let a = c .before .before .before .before .before .before .args in walk-head (a .s .now) _ (c .before .before .before .header-at .ensures) (a .rows .now) _ (a .arena .now) _ (c .before .p .given .0 .0) (search)
 

@@ -1,3 +1,4 @@
+-- `record::writer::emit` meets its contract. Assumes nothing.
 use native.Mathlib.Omega.{arith}
 use Rattle.record.proofs.SetStores.{kind-long, flag-small, emit-default, emit-kinds}
 use borrow.Author.Needs.{needs}
@@ -8,31 +9,24 @@ use Rattle.record.proofs.writer.emit.Lts as lts
 use Rattle.record.proofs.writer.put_header.Reads as put-header-reads
 use Rattle.record.proofs.writer.put_kinds.Reads as put-kinds-reads
 
--- src/writer.rt:167:16
 shared-slice-read-flag : tie.Need-shared-slice-read-flag
 shared-slice-read-flag c = let a = c .before .before .before .args in omega (arith, kind-long (a .rows .now) (a .samples .now) (c .before .before .before .pre))
 
--- src/writer.rt:168:9
 put-header-requires : tie.Need-put-header-requires
 put-header-requires c κs = let a = c .before .before .before .before .args in flag-small (a .rows .now) (a .samples .now) (c .before .before .before .before .pre)
 
--- src/writer.rt:170:9
 same-length : tie.Need-same-length
 same-length c = search needs
 
--- src/writer.rt:170:9
 returns : tie.Need-returns
 returns c = let a = c .before .before .before .before .before .before .before .before .args in emit-default (a .rows .now) (a .samples .now) (a .out .now) _ _ (c .if1 .taken) (c .before .before .before .put-header .ensures)
 
--- src/writer.rt:172:5
 put-kinds-requires : tie.Need-put-kinds-requires
 put-kinds-requires c κs = search needs
 
--- src/writer.rt:163:1
 same-length-2 : tie.Need-same-length-2
 same-length-2 c = search needs
 
--- src/writer.rt:163:1
 returns-2 : tie.Need-returns-2
 returns-2 c = let a = c .before .before .before .before .before .before .before .before .before .before .before .before .args in emit-kinds (a .rows .now) (a .samples .now) (a .out .now) _ _ _ _ (c .before .before .before .before .if1 .left) (c .before .before .before .before .before .before .before .put-header .ensures) (c .before .before .put-kinds .ensures)
 

@@ -1,3 +1,4 @@
+-- `record::writer::is_lent` meets its contract. Assumes nothing.
 use Rattle.record.proofs.SetStores.{lent-long, lent-full, lent-part, lent-none}
 use borrow.Author.Needs.{needs}
 use Rattle.record.proofs.writer.is_lent.Statement.{statement}
@@ -6,23 +7,18 @@ use Rattle.record.proofs.writer.is_lent.Reads as reads
 use Rattle.record.proofs.writer.is_lent.Lts as lts
 use Rattle.record.proofs.reader.any_raw.Reads as any-raw-reads
 
--- src/writer.rt:194:9
 returns : tie.Need-returns
 returns c = search (lent-long, needs)
 
--- src/writer.rt:197:9
 returns-2 : tie.Need-returns-2
 returns-2 c = search (lent-full, needs)
 
--- src/writer.rt:200:9
 returns-3 : tie.Need-returns-3
 returns-3 c = search (lent-part, needs)
 
--- src/writer.rt:202:5
 any-raw-requires : tie.Need-any-raw-requires
 any-raw-requires c κs = search needs
 
--- src/writer.rt:190:1
 returns-4 : tie.Need-returns-4
 returns-4 c = let a = c .before .before .before .before .before .args in lent-none (a .rows .now) (a .samples .now) (search needs) (search needs) (search needs) _ (c .any-raw .ensures)
 

@@ -1,3 +1,4 @@
+-- `record::writer::put_bands` meets its contract. Assumes nothing.
 use Rattle.record.specs.Number.{number}
 use Rattle.record.specs.Text.{bytes}
 use native.Mathlib.Omega.{arith}
@@ -10,27 +11,21 @@ use Rattle.record.proofs.writer.put_bands.Lts as lts
 use Rattle.record.proofs.put.put_bytes.Reads as put-bytes-reads
 use Rattle.record.proofs.put.put_counts.Reads as put-counts-reads
 
--- src/writer.rt:45:9
 returns : tie.Need-returns
 returns c = let a = c .before .before .before .args in line-empty (bytes "bands=") 0 (number 16) (a .src .now) (a .out .now) (a .at) (c .if1 .taken)
 
--- src/writer.rt:47:32
 slice-aggregate-put-bytes : tie.Need-slice-aggregate-put-bytes
 slice-aggregate-put-bytes c = search needs
 
--- src/writer.rt:47:9
 put-bytes-requires : tie.Need-put-bytes-requires
 put-bytes-requires c κs = search needs
 
--- src/writer.rt:48:5
 put-counts-requires : tie.Need-put-counts-requires
 put-counts-requires c κs = search needs
 
--- src/writer.rt:40:1
 same-length : tie.Need-same-length
 same-length c = search needs
 
--- src/writer.rt:40:1
 returns-2 : tie.Need-returns-2
 returns-2 c = let a = c .before .before .before .before .before .before .before .before .before .before .before .before .args in line-full (bytes "bands=") 0 (number 16) (a .src .now) (a .out .now) (a .at) (omega arith) (c .before .before .before .before .before .before .before .before .before .if1 .left) _ _ _ _ (c .before .before .before .before .before .before .put-bytes .ensures .0) (c .before .before .before .before .before .before .put-bytes .ensures .1) (c .before .before .put-counts .ensures)
 

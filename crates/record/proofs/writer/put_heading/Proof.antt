@@ -1,3 +1,4 @@
+-- `record::writer::put_heading` meets its contract. Assumes nothing.
 use Rattle.record.proofs.LineStores.{heading-stored}
 use borrow.Author.Needs.{needs}
 use Rattle.record.proofs.writer.put_heading.Statement.{statement}
@@ -8,43 +9,33 @@ use Rattle.record.proofs.fixed.long_heading.Reads as long-heading-reads
 use Rattle.record.proofs.fixed.short_heading.Reads as short-heading-reads
 use Rattle.record.proofs.put.put_bytes.Reads as put-bytes-reads
 
--- src/writer.rt:91:20
 short-heading-requires : tie.Need-short-heading-requires
 short-heading-requires c κs = search needs
 
--- src/writer.rt:92:35
 slice-aggregate-put-bytes : tie.Need-slice-aggregate-put-bytes
 slice-aggregate-put-bytes c = search needs
 
--- src/writer.rt:92:9
 put-bytes-requires : tie.Need-put-bytes-requires
 put-bytes-requires c κs = search needs
 
--- src/writer.rt:92:9
 same-length : tie.Need-same-length
 same-length c = search needs
 
--- src/writer.rt:92:9
 returns : tie.Need-returns
 returns c = let a = c .before .before .before .before .before .before .before .before .args in heading-stored (a .out .now) _ (a .at) _ (a .kind) _ (c .before .before .before .before .before .short-heading .ensures) (c .before .before .put-bytes .ensures .0) (c .before .before .put-bytes .ensures .1)
 
--- src/writer.rt:94:16
 long-heading-requires : tie.Need-long-heading-requires
 long-heading-requires c κs = search needs
 
--- src/writer.rt:95:24
 slice-aggregate-put-bytes-2 : tie.Need-slice-aggregate-put-bytes-2
 slice-aggregate-put-bytes-2 c = search needs
 
--- src/writer.rt:95:5
 put-bytes-requires-2 : tie.Need-put-bytes-requires-2
 put-bytes-requires-2 c κs = search needs
 
--- src/writer.rt:86:1
 same-length-2 : tie.Need-same-length-2
 same-length-2 c = search needs
 
--- src/writer.rt:86:1
 returns-2 : tie.Need-returns-2
 returns-2 c = let a = c .before .before .before .before .before .before .before .before .args in heading-stored (a .out .now) _ (a .at) _ (a .kind) _ (c .before .before .before .before .before .long-heading .ensures) (c .before .before .put-bytes2 .ensures .0) (c .before .before .put-bytes2 .ensures .1)
 

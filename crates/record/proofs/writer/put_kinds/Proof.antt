@@ -1,3 +1,4 @@
+-- `record::writer::put_kinds` meets its contract. Assumes nothing.
 use Prim.Native.Nat.{_≤_, _<_, _-_}
 use borrow.Author.Needs.{needs}
 use native.Mathlib.Omega.{arith}
@@ -14,31 +15,24 @@ Inv-loop rows samples out₀ at kind₀ p₀ out kind p = (kind ≤ 17) × (at <
 abbrev μ-loop : tie.MeasureT-loop
 μ-loop rows samples out₀ at kind₀ p₀ out kind p = 17 - kind
 
--- src/writer.rt:155:5
 loop-holds : tie.Need-loop-holds Inv-loop μ-loop
 loop-holds c = let a = c .before .before .args in (search needs, search needs, emitted-start (a .rows .now) (a .samples .now) (a .out .now) (a .at))
 
--- src/writer.rt:156:9
 put-kind-requires : tie.Need-put-kind-requires Inv-loop μ-loop
 put-kind-requires c κs = (omega (arith, c .before .before .loop .inv .2 .short, c .before .loop-test .taken), (search needs, (c .before .before .before .before .before .pre .1 .0, c .before .before .before .before .before .pre .1 .1)))
 
--- src/writer.rt:157:9
 add-kind : tie.Need-add-kind Inv-loop μ-loop
 add-kind c = search needs
 
--- src/writer.rt:155:5
 loop-less : tie.Need-loop-less Inv-loop μ-loop
 loop-less c = search needs
 
--- src/writer.rt:155:5
 loop-again : tie.Need-loop-again Inv-loop μ-loop
 loop-again c = let a = c .before .before .before .before .before .before .before .before .args in (search needs, search needs, emitted-on (a .rows .now) (a .samples .now) (a .out .now) (a .at) _ _ _ (c .before .before .before .before .before .loop .inv .2) (c .before .before .before .before .loop-test .taken) _ _ (c .before .before .put-kind .ensures))
 
--- src/writer.rt:149:1
 same-length : tie.Need-same-length Inv-loop μ-loop
 same-length c = let a = c .before .before .before .before .args in emitted-length (a .rows .now) (a .samples .now) (a .out .now) (a .at) _ _ _ (c .before .loop .inv .2)
 
--- src/writer.rt:149:1
 returns : tie.Need-returns Inv-loop μ-loop
 returns c = let a = c .before .before .before .before .args in emitted-all (a .rows .now) (a .samples .now) (a .out .now) (a .at) _ _ _ (c .before .loop .inv .2) (c .loop-test .left) (search needs)
 

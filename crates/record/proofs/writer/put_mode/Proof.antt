@@ -1,3 +1,4 @@
+-- `record::writer::put_mode` meets its contract. Assumes nothing.
 use Rattle.record.proofs.LineStores.{mode-stored}
 use borrow.Author.Needs.{needs}
 use Rattle.record.proofs.writer.put_mode.Statement.{statement}
@@ -9,43 +10,33 @@ use Rattle.record.proofs.put.put_bytes.Reads as put-bytes-reads
 use Rattle.record.proofs.put.put_u8.Reads as put-u8-reads
 use Rattle.record.proofs.writer.put_heading.Reads as put-heading-reads
 
--- src/writer.rt:103:9
 put-heading-requires : tie.Need-put-heading-requires
 put-heading-requires c κs = search needs
 
--- src/writer.rt:104:26
 cast-put-u8 : tie.Need-cast-put-u8
 cast-put-u8 c = search needs
 
--- src/writer.rt:104:20
 add-put-u8 : tie.Need-add-put-u8
 add-put-u8 c = search needs
 
--- src/writer.rt:104:5
 put-u8-requires : tie.Need-put-u8-requires
 put-u8-requires c κs = search needs
 
--- src/writer.rt:105:16
 orders-of-requires : tie.Need-orders-of-requires
 orders-of-requires c κs = search needs
 
--- src/writer.rt:106:20
 add-put-bytes : tie.Need-add-put-bytes
 add-put-bytes c = search needs
 
--- src/writer.rt:106:27
 slice-aggregate-put-bytes : tie.Need-slice-aggregate-put-bytes
 slice-aggregate-put-bytes c = search needs
 
--- src/writer.rt:106:5
 put-bytes-requires : tie.Need-put-bytes-requires
 put-bytes-requires c κs = search needs
 
--- src/writer.rt:99:1
 same-length : tie.Need-same-length
 same-length c = search needs
 
--- src/writer.rt:99:1
 returns : tie.Need-returns
 returns c = let a = c .before .before .before .before .before .before .before .before .before .before .before .before .before .before .before .args in mode-stored (a .out .now) _ _ _ (a .at) _ _ (a .kind) (a .mode) _ (c .before .before .before .before .before .before .before .before .before .before .before .before .put-heading .ensures) (c .before .before .before .before .before .before .before .before .put-u8 .ensures) (c .before .before .before .before .before .orders-of .ensures) (c .before .before .put-bytes .ensures .0) (c .before .before .put-bytes .ensures .1)
 

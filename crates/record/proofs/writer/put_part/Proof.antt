@@ -1,3 +1,4 @@
+-- `record::writer::put_part` meets its contract. Assumes nothing.
 use Rattle.record.specs.Number.{signed}
 use lib.IntN.{pos}
 use Rattle.record.specs.Text.{bytes}
@@ -11,27 +12,21 @@ use Rattle.record.proofs.writer.put_part.Lts as lts
 use Rattle.record.proofs.put.put_bytes.Reads as put-bytes-reads
 use Rattle.record.proofs.put.put_samples.Reads as put-samples-reads
 
--- src/writer.rt:69:9
 returns : tie.Need-returns
 returns c = let a = c .before .before .args in line-empty (bytes "samples=") (pos 0) signed (a .src .now) (a .out .now) (a .at) (c .if1 .taken)
 
--- src/writer.rt:71:32
 slice-aggregate-put-bytes : tie.Need-slice-aggregate-put-bytes
 slice-aggregate-put-bytes c = search needs
 
--- src/writer.rt:71:9
 put-bytes-requires : tie.Need-put-bytes-requires
 put-bytes-requires c κs = search needs
 
--- src/writer.rt:72:5
 put-samples-requires : tie.Need-put-samples-requires
 put-samples-requires c κs = search needs
 
--- src/writer.rt:64:1
 same-length : tie.Need-same-length
 same-length c = search needs
 
--- src/writer.rt:64:1
 returns-2 : tie.Need-returns-2
 returns-2 c = let a = c .before .before .before .before .before .before .before .before .before .before .before .args in line-full (bytes "samples=") (pos 0) signed (a .src .now) (a .out .now) (a .at) (omega arith) (c .before .before .before .before .before .before .before .before .before .if1 .left) _ _ _ _ (c .before .before .before .before .before .before .put-bytes .ensures .0) (c .before .before .before .before .before .before .put-bytes .ensures .1) (c .before .before .put-samples .ensures)
 

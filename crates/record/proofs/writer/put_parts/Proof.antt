@@ -1,3 +1,4 @@
+-- `record::writer::put_parts` meets its contract. Assumes nothing.
 use Rattle.params.specs.Row.{lists}
 use lib.ListN.{getD, take, drop}
 use Prim.Native.Nat.{_+_, _-_}
@@ -12,83 +13,63 @@ use Rattle.record.proofs.writer.put_bands.Reads as put-bands-reads
 use Rattle.record.proofs.writer.put_numbers.Reads as put-numbers-reads
 use Rattle.record.proofs.writer.put_part.Reads as put-part-reads
 
--- src/writer.rt:115:16
 shared-slice-read-mode : tie.Need-shared-slice-read-mode
 shared-slice-read-mode c = search needs
 
--- src/writer.rt:115:16
 cast-mode : tie.Need-cast-mode
 cast-mode c = search needs
 
--- src/writer.rt:116:20
 mul-stop : tie.Need-mul-stop
 mul-stop c = search needs
 
--- src/writer.rt:116:20
 array-read-stop : tie.Need-array-read-stop
 array-read-stop c = search needs
 
--- src/writer.rt:116:16
 add-stop : tie.Need-add-stop
 add-stop c = search needs
 
--- src/writer.rt:117:23
 sub-put-bands : tie.Need-sub-put-bands
 sub-put-bands c = search needs
 
--- src/writer.rt:117:23
 part-put-bands-start : tie.Need-part-put-bands-start
 part-put-bands-start c = search needs
 
--- src/writer.rt:117:23
 part-put-bands-end : tie.Need-part-put-bands-end
 part-put-bands-end c = search needs
 
--- src/writer.rt:117:9
 put-bands-requires : tie.Need-put-bands-requires
 put-bands-requires c κs = search needs
 
--- src/writer.rt:118:39
 shared-slice-read-number-count : tie.Need-shared-slice-read-number-count
 shared-slice-read-number-count c = search needs
 
--- src/writer.rt:118:47
 shared-slice-read-number-count-2 : tie.Need-shared-slice-read-number-count-2
 shared-slice-read-number-count-2 c = search needs
 
--- src/writer.rt:118:20
 number-count-requires : tie.Need-number-count-requires
 number-count-requires c κs = search needs
 
--- src/writer.rt:118:16
 add-last : tie.Need-add-last
 add-last c = search needs
 
--- src/writer.rt:119:25
 sub-put-numbers : tie.Need-sub-put-numbers
 sub-put-numbers c = search needs
 
--- src/writer.rt:119:25
 part-put-numbers-start : tie.Need-part-put-numbers-start
 part-put-numbers-start c = search needs
 
--- src/writer.rt:119:25
 part-put-numbers-end : tie.Need-part-put-numbers-end
 part-put-numbers-end c = search needs
 
--- src/writer.rt:119:9
 put-numbers-requires : tie.Need-put-numbers-requires
 put-numbers-requires c κs = search needs
 
--- src/writer.rt:120:5
 put-part-requires : tie.Need-put-part-requires
 put-part-requires c κs = search needs
 
--- src/writer.rt:111:1
 same-length : tie.Need-same-length
 same-length c = search needs
 
--- src/writer.rt:111:1
 returns : tie.Need-returns
 returns c = let a = c .before .before .before .before .before .before .before .before .before .before .before .before .before .before .before .before .before .before .before .before .args in let x = c .before .before .before .before .before .before .before .before .before .before .before .before .before .before .before .before .before .before .before .before .pre .1 in parts-stored (a .kind) (a .row .now) (a .part .now) x (take (1 + lists (getD (a .row .now) 0 0) - 1) (drop 1 (a .row .now))) (take (3 + c .before .before .before .before .before .before .before .before .before .number-count .result - 3) (drop 3 (a .row .now))) (a .at) _ _ _ (a .out .now) _ _ _ (counts-part (a .kind) (a .row .now) (a .part .now) x) (numbers-slots (a .kind) (a .row .now) (a .part .now) x _ (c .before .before .before .before .before .before .before .before .before .number-count .ensures .0)) (c .before .before .before .before .before .before .before .before .before .before .before .before .before .before .put-bands .ensures) (c .before .before .before .before .before .before .put-numbers .ensures) (c .before .before .put-part .ensures)
 

@@ -1,3 +1,4 @@
+-- `record::writer::put_row` meets its contract. Assumes nothing.
 use Rattle.record.proofs.KindStores.{row-stored}
 use borrow.Author.Needs.{needs}
 use Rattle.record.proofs.writer.put_row.Statement.{statement}
@@ -7,23 +8,18 @@ use Rattle.record.proofs.writer.put_row.Lts as lts
 use Rattle.record.proofs.writer.put_mode.Reads as put-mode-reads
 use Rattle.record.proofs.writer.put_parts.Reads as put-parts-reads
 
--- src/writer.rt:128:37
 shared-slice-read-put-mode : tie.Need-shared-slice-read-put-mode
 shared-slice-read-put-mode c = search needs
 
--- src/writer.rt:128:9
 put-mode-requires : tie.Need-put-mode-requires
 put-mode-requires c κs = search needs
 
--- src/writer.rt:129:5
 put-parts-requires : tie.Need-put-parts-requires
 put-parts-requires c κs = search needs
 
--- src/writer.rt:124:1
 same-length : tie.Need-same-length
 same-length c = search needs
 
--- src/writer.rt:124:1
 returns : tie.Need-returns
 returns c = let a = c .before .before .before .before .before .before .before .before .before .before .before .args in row-stored (a .kind) (a .row .now) (a .part .now) (a .at) _ _ (a .out .now) _ _ (c .before .before .before .before .before .before .put-mode .ensures) (c .before .before .put-parts .ensures)
 
