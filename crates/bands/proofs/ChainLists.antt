@@ -1,21 +1,20 @@
--- A chain as a list, how it is filled, and what a row of products does in one turn. Assumes nothing.
+-- A chain as a list, and how it is filled. Assumes nothing.
 use mathlib.Core.Path.{_≡_, refl, sym, ap, _∙_, subst}
 use mathlib.Core.Logic.{_⊎_, inl, inr}
 use mathlib.Core.Bool.{Bool, true, false, cond}
 use mathlib.Core.List.{List}
-use Prim.Native.Nat.{ℕ, zero, suc, _+_, _-_, _*_, _/_, _%_, _^_, _≤_, _<_, zero-le}
-use native.Mathlib.Nat.{le-trans, le-of-eq, le-of-lt, le-of-suc-le-suc, lt-of-lt-of-le, lt-of-le-of-lt, lt-irrefl, mul-le-mul, not-suc-le-zero}
+use Prim.Native.Nat.{ℕ, zero, suc, _+_, _*_, _/_, _%_, _^_, _≤_, _<_, zero-le}
+use native.Mathlib.Nat.{le-trans, le-of-eq, le-of-lt, le-of-suc-le-suc, lt-of-lt-of-le, lt-irrefl, not-suc-le-zero}
 use native.Mathlib.Numerals.{add-one}
 use native.Mathlib.Omega.{arith}
-use lib.Dec.{T, eqb, eqb→eq, lit<}
+use lib.Dec.{T, lit<}
 use lib.ListN.{length, getD, set, length-set}
 use lib.Seq.{ext-getD, getD-set-same, getD-set-other}
-use lib.Ieee.Fits.{eq→eqb}
 use Rattle.bands.specs.Root.{wholeRoot}
 use lib.Ieee.{binary32, round}
 use Rattle.bands.specs.Power.{chain, products, turns, mantissa, powerOf}
 use Rattle.bands.specs.Views.{chainFrom, IsChain}
-use Rattle.bands.proofs.Chains.{chain-le, products-lt}
+use Rattle.bands.proofs.Chains.{chain-le}
 
 -- ---- the list
 chain-next : (r j : ℕ) → chain (wholeRoot (r * 2 ^ 31)) j ≡ chain r (suc j)
@@ -29,7 +28,7 @@ chainFrom-at r zero j h = absurd (not-suc-le-zero h)
 chainFrom-at r (suc k) zero h = refl
 chainFrom-at r (suc k) (suc j) h = chainFrom-at (wholeRoot (r * 2 ^ 31)) k j (le-of-suc-le-suc h) ∙ chain-next r j
 
-chainFrom-length : (r k : ℕ) → length (chainFrom r k) ≡ k
+pub chainFrom-length : (r k : ℕ) → length (chainFrom r k) ≡ k
 unfolding chainFrom
 chainFrom-length r zero = refl
 chainFrom-length r (suc k) = ap suc (chainFrom-length (wholeRoot (r * 2 ^ 31)) k)
@@ -85,60 +84,14 @@ pub first-of : (r : ℕ) (l : List ℕ) → l ≡ chainFrom r 33 → getD l 0 0 
 unfolding chain
 first-of r l e = ap (λ (z : List ℕ). getD z 0 0) e ∙ chainFrom-at r 33 0 (lit< tt)
 
--- ---- one turn of a row of products
-same-shift : (j : ℕ) → 32 - suc j ≡ 31 - j
-same-shift j = omega arith
-
-row-cond : (r n y j : ℕ) → products r n y (j + 1) ≡ cond (eqb (n / 2 ^ (31 - j) % 2) 1) (products r n y j * chain r (suc j) / 2 ^ 31) (products r n y j)
-unfolding products
-row-cond r n y j = ap (λ (z : ℕ). products r n y z) (add-one j) ∙ ap (λ (z : ℕ). cond (eqb (n / 2 ^ z % 2) 1) (products r n y j * chain r (suc j) / 2 ^ 31) (products r n y j)) (same-shift j)
-
-cond-yes : (b : Bool) (x y : ℕ) → T b → cond b x y ≡ x
+-- ---- a choice that is made
+pub cond-yes : (b : Bool) (x y : ℕ) → T b → cond b x y ≡ x
 cond-yes true x y t = refl
 cond-yes false x y t = absurd t
 
-cond-no : (b : Bool) (x y : ℕ) → (T b → ⊥) → cond b x y ≡ y
+pub cond-no : (b : Bool) (x y : ℕ) → (T b → ⊥) → cond b x y ≡ y
 cond-no true x y t = absurd (t tt)
 cond-no false x y t = refl
-
--- l is a chain: z is the product up to j
-pub record Row (l : List ℕ) (n y z j : ℕ) : Type 0 where
-  pub most : j ≤ 32
-  pub is : z ≡ products (getD l 0 0) n y j
-
-pub row-start : (l : List ℕ) (n y : ℕ) → Row l n y y 0
-unfolding products
-row-start l n y = record { most = zero-le; is = refl }
-
-pub row-all : (l : List ℕ) (n y z j : ℕ) → 32 ≤ j → Row l n y z j → z ≡ products (getD l 0 0) n y 32
-row-all l n y z j h c = c .is ∙ ap (λ (i : ℕ). products (getD l 0 0) n y i) (native.Mathlib.Nat.le-antisymm (c .most) h)
-
-pub row-set : (l : List ℕ) (n y z j : ℕ) → IsChain l → Row l n y z j → j < 32 → n / 2 ^ (31 - j) % 2 ≡ 1 → Row l n y (z * getD l (j + 1) 0 / 2 ^ 31) (j + 1)
-row-set l n y z j c p h e =
-    let r = getD l 0 0 in
-    let g : getD l (j + 1) 0 ≡ chain r (suc j) = at-chain l c (j + 1) (omega arith) ∙ ap (λ (i : ℕ). chain r i) (add-one j) in
-    record {
-      most = omega arith;
-      is =
-          ap (λ (w : ℕ). w * getD l (j + 1) 0 / 2 ^ 31) (p .is) ∙ ap (λ (w : ℕ). products r n y j * w / 2 ^ 31) g
-          ∙ sym (row-cond r n y j ∙ cond-yes (eqb (n / 2 ^ (31 - j) % 2) 1) (products r n y j * chain r (suc j) / 2 ^ 31) (products r n y j) (eq→eqb e));
-    }
-
-pub row-clear : (l : List ℕ) (n y z j : ℕ) → Row l n y z j → j < 32 → (n / 2 ^ (31 - j) % 2 ≡ 1 → ⊥) → Row l n y z (j + 1)
-row-clear l n y z j p h e =
-    let r = getD l 0 0 in
-    record {
-      most = omega arith;
-      is = p .is ∙ sym (row-cond r n y j ∙ cond-no (eqb (n / 2 ^ (31 - j) % 2) 1) (products r n y j * chain r (suc j) / 2 ^ 31) (products r n y j) (λ t. e (eqb→eq (n / 2 ^ (31 - j) % 2) 1 t)));
-    }
-
-pub row-fits : (l : List ℕ) (n y z j : ℕ) → IsChain l → Row l n y z j → j < 32 → 0 < y → y ≤ 2 ^ 31 → n < 2 ^ 32 → z * getD l (j + 1) 0 < 2 ^ 64
-row-fits l n y z j c p h Y Y' N =
-    let r = getD l 0 0 in
-    let a : z < 2 ^ 32 = lt-of-le-of-lt (le-of-eq (p .is)) (lt-of-lt-of-le (products-lt r n y (c .high) Y N j (le-of-lt h)) (omega arith)) in
-    let b : getD l (j + 1) 0 ≤ 2 ^ 32 = le-trans (le-of-eq (at-chain l c (j + 1) (omega arith))) (chain-le r (c .high) (j + 1)) in
-    let m : z * getD l (j + 1) 0 ≤ (2 ^ 32 - 1) * 2 ^ 32 = mul-le-mul {n₂ = 2 ^ 32 - 1} {m₂ = 2 ^ 32} (omega arith) b in
-    lt-of-le-of-lt m (lit< tt)
 
 -- ---- two rows are the mantissa
 pub mantissa-is : (s e n x y : ℕ) (l : List ℕ) → l ≡ chainFrom (2 ^ 32) 33 → x ≡ products s n (2 ^ 30) 32 → y ≡ products (getD l 0 0) (turns e n % 2 ^ 32) x 32 → y ≡ mantissa s e n

@@ -15,14 +15,17 @@ pub mod Written
 pub mod Powers
 pub mod Chains
 pub mod ChainLists
+pub mod SetBits
 pub mod Accuracy
 pub mod Ones
 pub mod RatioLaws
+pub mod Tables
 pub mod Ranged
 pub mod Distance
 pub mod Position
 pub mod Truncate
 pub mod TimesPower
+pub mod Marks
 pub mod Freqs
 pub mod MultRange
 pub mod TableLaws

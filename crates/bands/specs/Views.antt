@@ -5,10 +5,11 @@ use mathlib.Core.List.{[], List, _∷_}
 use Prim.Native.Nat.{ℕ, zero, suc, _+_, _-_, _*_, _/_, _%_, _^_, _≤_, _<_}
 use lib.IntN.{pos}
 use lib.ListN.{length, getD, set, replicate}
-use lib.Ieee.{Float, nan, binary32, sub, div, ofInt}
+use lib.Dec.{eqb}
+use lib.Ieee.{Float, nan, binary32, sub, div, round, ofInt}
 use lib.Ieee.Exact.{HasValue}
 use Rattle.bands.specs.Root.{wholeRoot}
-use Rattle.bands.specs.Power.{field, scaled, normal}
+use Rattle.bands.specs.Power.{chain, field, scaled, normal, turns}
 use Rattle.bands.specs.Bands.{atOf, bandAt}
 use Rattle.bands.specs.Distance.{distanceOf}
 use Rattle.bands.specs.Position.{positionOf, indexOf, Cut}
@@ -48,14 +49,50 @@ none = record { e = 0; roots = replicate 33 0 }
 unfoldable pub ratioOf : Float → Ratio
 ratioOf q = cond (normal q) (record { e = field q; roots = chainFrom (scaled q) 33 }) none
 
--- what stands past the end of a list of ratios
-abbrev pub absent : Ratio
-absent = record { e = 0; roots = [] }
+-- ---- chains, one after the other in a table
+-- where the chain of a q starts, and its field; 2 ^ 31 and 0 for a q that has no power
+abbrev pub startOf : Float → ℕ
+startOf q = cond (normal q) (scaled q) (2 ^ 31)
 
--- r is the ratios of each of the bands to the one before it
-pub record AllRatios (bands : List Float) (r : List Ratio) : Type 0 where
-  pub long : length r ≡ 15
-  pub each : (i : ℕ) → i < 15 → getD r i absent ≡ ratioOf (div binary32 (getD bands (i + 1) nan) (getD bands i nan))
+abbrev pub fieldOf : Float → ℕ
+fieldOf q = cond (normal q) (field q) 0
+
+-- the 33 numbers from `at` on are a chain from a number between 2 ^ 31 and 2 ^ 32
+pub record Links (l : List ℕ) (at : ℕ) : Type 0 where
+  pub inside : at + 33 ≤ length l
+  pub each : (j : ℕ) → j < 33 → getD l (at + j) 0 ≡ chain (getD l at 0) j
+  pub low : 2 ^ 31 ≤ getD l at 0
+  pub high : getD l at 0 ≤ 2 ^ 32
+
+-- the 34 numbers from `at` on are what P needs of q: its field and its chain
+pub record Holds (l : List ℕ) (at : ℕ) (q : Float) : Type 0 where
+  pub inside : at + 34 ≤ length l
+  pub e : getD l at 0 ≡ fieldOf q
+  pub each : (j : ℕ) → j < 33 → getD l (at + 1 + j) 0 ≡ chain (startOf q) j
+
+-- r is l with e and the chain from s laid from `at` on; what stands past them is not said
+pub record Linked (l : List ℕ) (at e s : ℕ) (r : List ℕ) : Type 0 where
+  pub long : length r ≡ length l
+  pub before : (i : ℕ) → i < at → getD r i 0 ≡ getD l i 0
+  pub first : getD r at 0 ≡ e
+  pub each : (j : ℕ) → j < 33 → getD r (at + 1 + j) 0 ≡ chain s j
+
+-- the ratio of band i + 1 to band i
+abbrev pub ratioAt : List Float → ℕ → Float
+ratioAt bs i = div binary32 (atOf bs (i + 1)) (atOf bs i)
+
+-- what P needs of the ratios of n bands, one after the other
+pub record Held (bs : List Float) (n : ℕ) (l : List ℕ) : Type 0 where
+  pub each : (i : ℕ) → i + 1 < n → Holds l (i * 34) (ratioAt bs i)
+
+-- the power of a field e at n from the mantissa y; a NaN for the field 0
+unfoldable pub finished : ℕ → ℕ → ℕ → Float
+unfolding round
+finished e n y = cond (eqb e 0) nan (round binary32 false (y * 2 ^ (turns e n / 2 ^ 32)) (2 ^ 157))
+
+-- a number that a row of products may start from
+abbrev pub Starts : ℕ → Type 0
+Starts y = (2 ^ 30 ≤ y) × (y < 2 ^ 31)
 
 -- ---- segments
 -- bands i and i + 1, and what p has beyond i

@@ -1,19 +1,21 @@
 // The weights of three channels' bands over a grid.
 use crate::own_power::Ratio;
 use crate::own_power::power_at;
-use crate::own_power::ratios;
+use crate::own_power::top_chain;
 use crate::spot::Segment;
 use crate::spot::cut_at;
 use crate::spot::distance;
 use crate::spot::position;
+use crate::three::chains;
+use crate::three::weigh_three;
 ghost use mathlib.Core.Path.{_≡_};
 ghost use mathlib.Core.Bool.{false};
-ghost use Prim.Native.Nat.{_+_, _*_, _≤_, _<_};
+ghost use Prim.Native.Nat.{_+_, _*_, _^_, _≤_, _<_};
 ghost use lib.IntN.{pos};
 ghost use lib.ListN.{length};
 ghost use lib.Ieee.{fin, binary32, mul, div, toUnsigned};
 ghost use Rattle.bands.specs.Bands.{atOf};
-ghost use Rattle.bands.specs.Position.{Cut, indexOf};
+ghost use Rattle.bands.specs.Position.{Cut, indexOf, fractionOf};
 ghost use Rattle.bands.specs.Weights.{stepsOf, segmentWeight, between};
 ghost use Rattle.bands.specs.Views.{Stepped, ratioOf, gridOf, Grid, Placed, putOf};
 
@@ -64,6 +66,14 @@ fn place(q: usize, w: u16, h: u16, count: u16) -> f32
     position(distance(x, y, w - 1, h - 1), count)
 }
 
+// The position in 2 ^ -32ths: the index above 2 ^ 32, the fraction below it.
+fn mark(p: f32, count: u16) -> u64
+    requires { ⌜ (count ≤ 16) × Cut count p ⌝ }
+    ensures { λ r. ⌜ (r ≡ indexOf p * 2 ^ 32 + stepsOf (fractionOf p)) × (indexOf p + 1 < count) × (stepsOf (fractionOf p) < 2 ^ 32) ⌝ }
+{
+    std::num::truncating_f32_to_u64(p * 4294967296.0)
+}
+
 // Place q of three channels.
 fn put(out: &mut [f32], area: usize, q: usize, v0: f32, v1: f32, v2: f32)
     requires { ⌜ (q < area) × (length (now out) ≡ 3 * area) × (area ≤ 65536) ⌝ }
@@ -87,18 +97,17 @@ fn fill_many(
     requires { ⌜ Grid count w h (length (now out)) × (2 ≤ count) ⌝ }
     ensures { λ r. ⌜ now (out .exit) ≡ gridOf (now (b0 .entry)) (now (b1 .entry)) (now (b2 .entry)) count w h ⌝ }
 {
-    let r0 = ratios(b0);
-    let r1 = ratios(b1);
-    let r2 = ratios(b2);
+    let r0 = chains(b0, count);
+    let r1 = chains(b1, count);
+    let r2 = chains(b2, count);
+    let top = top_chain();
     let area = (w as usize) * (h as usize);
     let mut q: usize = 0;
     while q < area {
-        let p = place(q, w, h, count);
-        let i = index(p, count);
-        let v0 = weigh_at(b0, r0[i], count, p);
-        let v1 = weigh_at(b1, r1[i], count, p);
-        let v2 = weigh_at(b2, r2[i], count, p);
-        put(out, area, q, v0, v1, v2);
+        let t = mark(place(q, w, h, count), count);
+        let i = (t >> 32) as usize;
+        let v = weigh_three(b0, b1, b2, &r0, &r1, &r2, &top, i, t % 4294967296);
+        put(out, area, q, v.a, v.b, v.c);
         q += 1;
     }
 }

@@ -6,6 +6,7 @@ mod own_power;
 mod quant;
 mod root;
 mod spot;
+mod three;
 mod whole;
 
 pub use freq::freq_weight;

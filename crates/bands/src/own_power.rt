@@ -7,7 +7,7 @@ ghost use lib.ListN.{getD};
 ghost use lib.Ieee.{nan, binary32, round};
 ghost use lib.Ieee.Nearest.{closest};
 ghost use Rattle.bands.specs.Power.{products, powerOf, P};
-ghost use Rattle.bands.specs.Views.{chainFrom, IsChain, ratioOf, AllRatios};
+ghost use Rattle.bands.specs.Views.{chainFrom, IsChain, ratioOf};
 
 // The chain from s: each next one is the whole root of (last * 2^31).
 fn chain(s: u32) -> [u64; 33]
@@ -61,25 +61,25 @@ const TOP: [u64; 33] = [
     2147483648,
 ];
 
-fn top_chain() -> [u64; 33]
+pub(crate) fn top_chain() -> [u64; 33]
     ensures { λ r. ⌜ r ≡ chainFrom 4294967296 33 ⌝ }
 {
     TOP
 }
 
-// y times those of a chain whose bit n has, each product divided by 2^31, downward.
-fn row(roots: &[u64; 33], n: u64, y: u64) -> u64
+// y times those of a chain whose bit n has, each product divided by 2^31, downward. A turn for each bit
+// that n has, from the highest: the others leave y as it is.
+pub(crate) fn row(roots: &[u64; 33], n: u64, y: u64) -> u64
     requires { ⌜ IsChain (now roots) ⌝ }
     requires { ⌜ (0 < y) × (y ≤ 2 ^ 31) × (n < 2 ^ 32) ⌝ }
     ensures { λ r. ⌜ r ≡ products (getD (now (roots .entry)) 0 0) n y 32 ⌝ }
 {
     let mut z = y;
-    let mut j: usize = 0;
-    while j < 32 {
-        if (n >> (31 - j)) % 2 == 1 {
-            z = (z * roots[j + 1]) >> 31;
-        }
-        j += 1;
+    let mut left = n as u32;
+    while left > 0 {
+        let j = u32::leading_zeros(left);
+        z = (z * roots[1 + (j as usize)]) >> 31;
+        left = left % (1 << (31 - j));
     }
     z
 }
@@ -102,7 +102,7 @@ fn nearest_shift(x: u64, k: u64) -> u64
 }
 
 // y * 2^i / 2^157 rounded once, for a y of 31 or 32 digits.
-fn rounded(y: u64, i: u64) -> f32
+pub(crate) fn rounded(y: u64, i: u64) -> f32
     requires { ⌜ (2 ^ 30 ≤ y) × (y < 2 ^ 32) × (1 ≤ i) × (i < 254) ⌝ }
     ensures { λ r. ⌜ r ≡ round binary32 false (y * 2 ^ i) (2 ^ 157) ⌝ }
 {
@@ -175,17 +175,4 @@ pub fn power(q: f32, n: u32) -> f32
     ensures { λ r. ⌜ r ≡ P q n ⌝ }
 {
     power_at(ratio_of(q), q, n)
-}
-
-// The ratio of each band to the one before it.
-pub(crate) fn ratios(bands: &[f32; 16]) -> [Ratio; 15]
-    ensures { λ r. ⌜ AllRatios (now (bands .entry)) r ⌝ }
-{
-    let mut all = [ratio_of(1.0); 15];
-    let mut i: usize = 0;
-    while i < 15 {
-        all[i] = ratio_of(bands[i + 1] / bands[i]);
-        i += 1;
-    }
-    all
 }

@@ -1,57 +1,61 @@
--- `own_power::row` meets its contract: up to j the product is that of the definition (`Row`). Assumes nothing.
-use mathlib.Core.Path.{sym, subst}
-use Prim.Native.Nat.{ℕ, _+_, _-_}
+-- `own_power::row` meets its contract: what is left of n, from z on, gives the product of the definition (`Left`). Assumes nothing.
+use Prim.Native.Nat.{_<_}
+use native.Mathlib.Omega.{arith}
+use lib.Count.{leadingZeros}
+use lib.ListN.{getD}
 use borrow.Author.Needs.{needs}
-use mathlib.Core.Logic.{⊎-elim}
-use Rattle.bands.proofs.ChainLists.{Row, row-start, row-all, row-set, row-clear, row-fits}
+use Rattle.bands.proofs.SetBits.{Left, left-all, left-none, left-less, left-few, unit-pos}
+use Rattle.bands.proofs.Tables.{links-of, link-on, link-fits}
 use Rattle.bands.proofs.own_power.row.Statement.{statement}
 use Rattle.bands.proofs.own_power.row.Tie as tie
 
 abbrev Inv-loop : tie.InvT-loop
-Inv-loop roots n y z₀ j₀ z j = Row roots n y z j
+Inv-loop roots n y z₀ left₀ z left = Left (getD roots 0 0) n y z left
 
 abbrev μ-loop : tie.MeasureT-loop
-μ-loop roots n y z₀ j₀ z j = 32 - j
+μ-loop roots n y z₀ left₀ z left = left
+
+few : (d : tie.In-loop Inv-loop μ-loop) → leadingZeros 32 (d .before .loop .left) < 32
+few d = left-few _ _ _ _ _ (d .before .loop .inv) (d .loop-test .taken)
+
+cast-left : tie.Need-cast-left Inv-loop μ-loop
+cast-left c = search needs
 
 loop-holds : tie.Need-loop-holds Inv-loop μ-loop
-loop-holds c = row-start _ _ _
+loop-holds c = left-all _ _ _ (c .pre .1 .2)
 
-sub-if1 : tie.Need-sub-if1 Inv-loop μ-loop
-sub-if1 c = search needs
-
-shr-if1 : tie.Need-shr-if1 Inv-loop μ-loop
-shr-if1 c = search needs
+cast-z : tie.Need-cast-z Inv-loop μ-loop
+cast-z c = omega (arith, few c)
 
 add-z : tie.Need-add-z Inv-loop μ-loop
-add-z c = search needs
+add-z c = omega (arith, few c)
 
 mul-z : tie.Need-mul-z Inv-loop μ-loop
-mul-z c = search needs
+mul-z c = omega (arith, few c)
 
 element-copy-out-z : tie.Need-element-copy-out-z Inv-loop μ-loop
-element-copy-out-z c = search needs
+element-copy-out-z c = omega (arith, few c)
 
 mul-z-2 : tie.Need-mul-z-2 Inv-loop μ-loop
-mul-z-2 c = record { fits = row-fits _ _ _ _ _ (c .before .before .before .before .pre .0) (c .before .before .before .loop .inv) (c .before .before .loop-test .taken) (c .before .before .before .before .pre .1 .0) (c .before .before .before .before .pre .1 .1) (c .before .before .before .before .pre .1 .2) }
+mul-z-2 c = let d = c .before in record { fits = link-fits (d .before .before .args .roots .now) 0 _ _ _ _ (links-of _ (d .before .before .pre .0)) (d .before .loop .inv) (d .loop-test .taken) (d .before .before .pre .1 .0) (d .before .before .pre .1 .1) (d .before .before .pre .1 .2) }
 
-add-j : tie.Need-add-j Inv-loop μ-loop
-add-j c = search needs
+sub-left : tie.Need-sub-left Inv-loop μ-loop
+sub-left c = omega (arith, few (c .before))
+
+shl-left : tie.Need-shl-left Inv-loop μ-loop
+shl-left c = omega arith
+
+rem-left : tie.Need-rem-left Inv-loop μ-loop
+rem-left c = unit-pos (leadingZeros 32 (c .before .before .loop .left))
 
 loop-less : tie.Need-loop-less Inv-loop μ-loop
-loop-less c = search needs
+loop-less c = left-less _ _ _ _ _ (c .before .before .loop .inv) (c .before .loop-test .taken)
 
 loop-again : tie.Need-loop-again Inv-loop μ-loop
-loop-again c =
-    let a = c .before .before .before .args in
-    let i = c .before .before .loop in
-    let h = c .before .loop-test .taken in
-    ⊎-elim
-    (λ w. subst (λ (v : ℕ). Row (a .roots .now) (a .n) (a .y) v (i .j + 1)) (sym (w .2)) (row-set (a .roots .now) (a .n) (a .y) (i .z) (i .j) (c .before .before .before .pre .0) (i .inv) h (w .0 .taken)))
-    (λ w. subst (λ (v : ℕ). Row (a .roots .now) (a .n) (a .y) v (i .j + 1)) (sym (w .1)) (row-clear (a .roots .now) (a .n) (a .y) (i .z) (i .j) (i .inv) h (w .0 .left)))
-    (c .if1 .came)
+loop-again c = let d = c .before in link-on (d .before .before .args .roots .now) 0 _ _ _ _ (links-of _ (d .before .before .pre .0)) (d .before .loop .inv) (d .loop-test .taken)
 
 returns : tie.Need-returns Inv-loop μ-loop
-returns c = row-all _ _ _ _ _ (c .loop-test .left) (c .before .loop .inv)
+returns c = left-none _ _ _ _ _ (c .loop-test .left) (c .before .loop .inv)
 
 pub row-spec : {M : Type 1} → statement M
 row-spec =
@@ -59,14 +63,16 @@ row-spec =
     (tie.spec
     Inv-loop
     μ-loop
+    cast-left
     loop-holds
-    sub-if1
-    shr-if1
+    cast-z
     add-z
     mul-z
     element-copy-out-z
     mul-z-2
-    add-j
+    sub-left
+    shl-left
+    rem-left
     loop-less
     loop-again
     returns)

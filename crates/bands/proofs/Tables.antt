@@ -1,0 +1,225 @@
+-- Chains in a table: how it is filled, what a row of products takes from it, and the power at the end. Assumes nothing.
+use mathlib.Core.Path.{_≡_, refl, sym, ap, ap₂, _∙_, subst}
+use mathlib.Core.Logic.{_⊎_, inl, inr}
+use mathlib.Core.Bool.{Bool, true, false, not, cond}
+use mathlib.Core.List.{List}
+use Prim.Native.Nat.{ℕ, zero, suc, _+_, _-_, _*_, _/_, _%_, _^_, _≤_, _<_, zero-le}
+use native.Mathlib.Nat.{zero-add, le-refl, le-trans, le-of-eq, le-of-lt, lt-irrefl, lt-of-lt-of-le, lt-of-le-of-lt, mod-lt, mul-le-mul, not-suc-le-zero}
+use native.Mathlib.Numerals.{add-one}
+use native.Mathlib.Omega.{arith}
+use lib.Dec.{T, eqb, lit≤, lit<}
+use lib.Pow.{pow-pos}
+use lib.ListN.{length, getD, set, length-set}
+use lib.Seq.{getD-set-same, getD-set-other}
+use lib.Count.{leadingZeros}
+use lib.Ieee.{Float, nan, binary32, round, toBits}
+use borrow.Author.Tests.{ne-eqb}
+use Rattle.bands.specs.Root.{wholeRoot}
+use Rattle.bands.specs.Power.{chain, products, field, scaled, normal, turns, mantissa, powerOf, P}
+use Rattle.bands.specs.Views.{chainFrom, IsChain, startOf, fieldOf, Links, Holds, Linked, ratioAt, Held, finished, Starts}
+use Rattle.bands.proofs.Fields.{normal-is}
+use Rattle.bands.proofs.Chains.{chain-le, products-ge, products-lt}
+use Rattle.bands.proofs.ChainLists.{at-chain, isChain, first-of, chainFrom-length, split-lt, power-is}
+use Rattle.bands.proofs.SetBits.{Left, unit, left-few, left-on, left-under}
+use Rattle.bands.proofs.RatioLaws.{decide, low-scaled, high-scaled}
+use Rattle.bands.proofs.Accuracy.{chosen, not-chosen}
+
+-- ---- a chain by itself is one at 0
+pub links-of : (l : List ℕ) → IsChain l → Links l 0
+links-of l c = record { inside = le-of-eq (sym (ap length (c .is) ∙ chainFrom-length (getD l 0 0) 33)); each = λ j b. ap (λ (i : ℕ). getD l i 0) (zero-add j) ∙ at-chain l c j b; low = c .low; high = c .high }
+
+pub top-links : (l : List ℕ) → l ≡ chainFrom (2 ^ 32) 33 → Links l 0
+top-links l e = links-of l (isChain (2 ^ 32) l e (lit≤ tt) (lit≤ tt))
+
+-- ---- a turn of a row of products, by the chain at `at`
+module _ (l : List ℕ) (at n y z left : ℕ) (k : Links l at) (c : Left (getD l at 0) n y z left) (p : 0 < left) where
+  next-is : getD l (at + 1 + leadingZeros 32 left) 0 ≡ chain (getD l at 0) (suc (leadingZeros 32 left))
+  next-is =
+      let j = leadingZeros 32 left in
+      let f : leadingZeros 32 left < 32 = left-few (getD l at 0) n y z left c p in
+      let e : at + 1 + leadingZeros 32 left ≡ at + suc (leadingZeros 32 left) = omega arith in
+      ap (λ (i : ℕ). getD l i 0) e ∙ k .each (suc (leadingZeros 32 left)) (omega arith)
+
+  pub link-inside : at + 1 + leadingZeros 32 left < length l
+  link-inside = let f : leadingZeros 32 left < 32 = left-few (getD l at 0) n y z left c p in omega (arith, k .inside)
+
+  pub link-on : Left (getD l at 0) n y (z * getD l (at + 1 + leadingZeros 32 left) 0 / 2 ^ 31) (left % unit (leadingZeros 32 left))
+  link-on = left-on (getD l at 0) n y z left c p _ (ap (λ (x : ℕ). z * x / 2 ^ 31) next-is)
+
+  pub link-fits : 0 < y → y ≤ 2 ^ 31 → n < 2 ^ 32 → z * getD l (at + 1 + leadingZeros 32 left) 0 < 2 ^ 64
+  link-fits Y Y' N =
+      let a : z < 2 ^ 32 = left-under (getD l at 0) n y z left c (k .low) (k .high) Y Y' N in
+      let b : getD l (at + 1 + leadingZeros 32 left) 0 ≤ 2 ^ 32 = le-trans (le-of-eq next-is) (chain-le (getD l at 0) (k .high) (suc (leadingZeros 32 left))) in
+      let m : z * getD l (at + 1 + leadingZeros 32 left) 0 ≤ (2 ^ 32 - 1) * 2 ^ 32 = mul-le-mul {n₂ = 2 ^ 32 - 1} {m₂ = 2 ^ 32} (omega arith) b in
+      lt-of-le-of-lt m (lit< tt)
+
+-- ---- the start and the field of a q
+cond-T : {A : Type 0} (b : Bool) (x y : A) → T b → cond b x y ≡ x
+cond-T true x y t = refl
+cond-T false x y t = absurd t
+
+cond-F : {A : Type 0} (b : Bool) (x y : A) → T (not b) → cond b x y ≡ y
+cond-F true x y t = absurd t
+cond-F false x y t = refl
+
+pub start-some : (q : Float) → T (normal q) → startOf q ≡ scaled q
+start-some q t = cond-T (normal q) (scaled q) (2 ^ 31) t
+
+pub start-none : (q : Float) → T (not (normal q)) → startOf q ≡ 2 ^ 31
+start-none q t = cond-F (normal q) (scaled q) (2 ^ 31) t
+
+pub field-some : (q : Float) → T (normal q) → fieldOf q ≡ field q
+field-some q t = cond-T (normal q) (field q) 0 t
+
+pub field-none : (q : Float) → T (not (normal q)) → fieldOf q ≡ 0
+field-none q t = cond-F (normal q) (field q) 0 t
+
+start-low : (q : Float) → 2 ^ 31 ≤ startOf q
+start-low q = go (decide (normal q))
+  where
+    go : T (normal q) ⊎ T (not (normal q)) → 2 ^ 31 ≤ startOf q
+    go (inl t) = le-trans (low-scaled (toBits binary32 q)) (le-of-eq (sym (start-some q t)))
+    go (inr t) = le-of-eq (sym (start-none q t))
+
+start-high : (q : Float) → startOf q ≤ 2 ^ 32
+start-high q = go (decide (normal q))
+  where
+    go : T (normal q) ⊎ T (not (normal q)) → startOf q ≤ 2 ^ 32
+    go (inl t) = le-trans (le-of-eq (start-some q t)) (le-trans (high-scaled (toBits binary32 q)) (lit≤ tt))
+    go (inr t) = le-trans (le-of-eq (start-none q t)) (lit≤ tt)
+
+field-few : (q : Float) → fieldOf q < 255
+field-few q = go (decide (normal q))
+  where
+    go : T (normal q) ⊎ T (not (normal q)) → fieldOf q < 255
+    go (inl t) = lt-of-le-of-lt (le-of-eq (field-some q t)) (normal-is q t .most)
+    go (inr t) = lt-of-le-of-lt (le-of-eq (field-none q t)) (lit< tt)
+
+-- ---- the chain of s laid from `at` on, j numbers of it
+pub record Linking (o : List ℕ) (at e s : ℕ) (l : List ℕ) (last j : ℕ) : Type 0 where
+  pub most : j ≤ 33
+  pub long : length l ≡ 510
+  pub next : last ≡ chain s j
+  pub before : (i : ℕ) → i < at → getD l i 0 ≡ getD o i 0
+  pub first : getD l at 0 ≡ e
+  pub done : (i : ℕ) → i < j → getD l (at + 1 + i) 0 ≡ chain s i
+
+pub linking-none : (o : List ℕ) (at e s : ℕ) → length o ≡ 510 → at + 34 ≤ 510 → Linking (set o at e) at e s (set o at e) s 0
+unfolding chain
+linking-none o at e s h a = record {
+  most = zero-le;
+  long = length-set o at e ∙ h;
+  next = refl;
+  before = λ i b. refl;
+  first = getD-set-same o at e 0 (omega arith);
+  done = λ i b. absurd (not-suc-le-zero b);
+}
+
+pub linking-more : (o : List ℕ) (at e s : ℕ) (l : List ℕ) (last j w : ℕ) → at + 34 ≤ 510 → Linking o at e s l last j → j < 33 → w ≡ wholeRoot (last * 2 ^ 31) → Linking o at e s (set l (at + 1 + j) last) w (j + 1)
+unfolding chain
+linking-more o at e s l last j w a f h x = record {
+  most = omega arith;
+  long = length-set l (at + 1 + j) last ∙ f .long;
+  next = x ∙ ap (λ (z : ℕ). wholeRoot (z * 2 ^ 31)) (f .next) ∙ ap (λ (z : ℕ). chain s z) (sym (add-one j));
+  before = λ i b. getD-set-other l (at + 1 + j) i last 0 (λ (q : i ≡ at + 1 + j). omega arith) ∙ f .before i b;
+  first = getD-set-other l (at + 1 + j) at last 0 (λ (q : at ≡ at + 1 + j). omega arith) ∙ f .first;
+  done = λ i b. go i (split-lt i j b);
+}
+  where
+    fits : at + 1 + j < length l
+    fits = lt-of-lt-of-le {m = 510} (omega arith) (le-of-eq (sym (f .long)))
+
+    go : (i : ℕ) → (i ≡ j) ⊎ (i < j) → getD (set l (at + 1 + j) last) (at + 1 + i) 0 ≡ chain s i
+    go i (inl p) = subst (λ (z : ℕ). getD (set l (at + 1 + j) last) (at + 1 + z) 0 ≡ chain s z) (sym p) (getD-set-same l (at + 1 + j) last 0 fits ∙ f .next)
+    go i (inr p) = getD-set-other l (at + 1 + j) (at + 1 + i) last 0 (λ (q : at + 1 + i ≡ at + 1 + j). omega arith) ∙ f .done i p
+
+pub linking-small : (o : List ℕ) (at e s : ℕ) (l : List ℕ) (last j : ℕ) → s < 2 ^ 32 → Linking o at e s l last j → last ≤ 2 ^ 32
+linking-small o at e s l last j h f = le-trans (le-of-eq (f .next)) (chain-le s (le-of-lt h) j)
+
+pub linking-all : (o : List ℕ) (at e s : ℕ) (l : List ℕ) (last j : ℕ) → length o ≡ 510 → 33 ≤ j → Linking (set o at e) at e s l last j → Linked o at e s l
+linking-all o at e s l last j h g f = record {
+  long = f .long ∙ sym h;
+  before = λ i b. f .before i b ∙ getD-set-other o at i e 0 (λ (q : i ≡ at). lt-irrefl at (subst (λ (z : ℕ). z < at) q b));
+  first = f .first;
+  each = λ i b. f .done i (lt-of-lt-of-le b g);
+}
+
+-- ---- the ratios of bands laid, i of them
+pub record Holding (bs : List Float) (i : ℕ) (l : List ℕ) : Type 0 where
+  pub long : length l ≡ 510
+  pub each : (k : ℕ) → k < i → Holds l (k * 34) (ratioAt bs k)
+
+pub holding-none : (bs : List Float) (l : List ℕ) → length l ≡ 510 → Holding bs 0 l
+holding-none bs l h = record { long = h; each = λ k b. absurd (not-suc-le-zero b) }
+
+pub holding-more : (bs : List Float) (i e s : ℕ) (l r : List ℕ) → Holding bs i l → i < 15 → Linked l (i * 34) e s r → e ≡ fieldOf (ratioAt bs i) → s ≡ startOf (ratioAt bs i) → Holding bs (i + 1) r
+holding-more bs i e s l r f h k x y = record { long = k .long ∙ f .long; each = λ m b. go m (split-lt m i b) }
+  where
+    wide : length r ≡ 510
+    wide = k .long ∙ f .long
+
+    here : Holds r (i * 34) (ratioAt bs i)
+    here = record { inside = le-trans {m = 510} (omega arith) (le-of-eq (sym wide)); e = k .first ∙ x; each = λ j b. k .each j b ∙ ap (λ (z : ℕ). chain z j) y }
+
+    old : (m : ℕ) → m < i → Holds r (m * 34) (ratioAt bs m)
+    old m b = record {
+      inside = le-trans {m = 510} (omega arith) (le-of-eq (sym wide));
+      e = k .before (m * 34) (omega arith) ∙ f .each m b .e;
+      each = λ j c. k .before (m * 34 + 1 + j) (omega arith) ∙ f .each m b .each j c;
+    }
+
+    go : (m : ℕ) → (m ≡ i) ⊎ (m < i) → Holds r (m * 34) (ratioAt bs m)
+    go m (inl p) = subst (λ (z : ℕ). Holds r (z * 34) (ratioAt bs z)) (sym p) here
+    go m (inr p) = old m p
+
+pub holding-all : (bs : List Float) (i n : ℕ) (l : List ℕ) → n ≤ i + 1 → Holding bs i l → Held bs n l
+holding-all bs i n l h f = record { each = λ k b. f .each k (omega arith) }
+
+-- ---- what stands in the table of a q
+module _ (l : List ℕ) (at : ℕ) (q : Float) (k : Holds l at q) where
+  from-is : getD l (at + 1) 0 ≡ startOf q
+  unfolding chain
+  from-is = let z : at + 1 ≡ at + 1 + 0 = omega arith in ap (λ (i : ℕ). getD l i 0) z ∙ k .each 0 (lit< tt)
+
+  pub holds-links : Links l (at + 1)
+  holds-links = record {
+    inside = omega (arith, k .inside);
+    each = λ j b. k .each j b ∙ ap (λ (z : ℕ). chain z j) (sym from-is);
+    low = le-trans (start-low q) (le-of-eq (sym from-is));
+    high = le-trans (le-of-eq from-is) (start-high q);
+  }
+
+  pub holds-few : getD l at 0 < 255
+  holds-few = lt-of-le-of-lt (le-of-eq (k .e)) (field-few q)
+
+  -- the first row is in the range that the second starts from
+  pub holds-starts : (n y : ℕ) → n < 2 ^ 32 → y ≡ products (getD l (at + 1) 0) n (2 ^ 30) 32 → Starts y
+  holds-starts n y N e = (
+    le-trans (products-ge (getD l (at + 1) 0) n (2 ^ 30) (holds-links .low) N 32 (le-refl 32)) (le-of-eq (sym e)),
+    lt-of-le-of-lt (le-of-eq e) (products-lt (getD l (at + 1) 0) n (2 ^ 30) (holds-links .high) (pow-pos 30) N 32 (le-refl 32)),
+  )
+
+  -- and the two rows, finished, are the power
+  pub holds-power : (n y z : ℕ) (v : Float) → y ≡ products (getD l (at + 1) 0) n (2 ^ 30) 32 → z ≡ products (2 ^ 32) (turns (getD l at 0) n % 2 ^ 32) y 32 → v ≡ finished (getD l at 0) n z → v ≡ P q n
+  unfolding finished mantissa
+  holds-power n y z v a b c = go (decide (normal q))
+    where
+      go : T (normal q) ⊎ T (not (normal q)) → v ≡ P q n
+      go (inl t) =
+          let f : getD l at 0 ≡ field q = k .e ∙ field-some q t in
+          let s : getD l (at + 1) 0 ≡ scaled q = from-is ∙ start-some q t in
+          let m : z ≡ mantissa (scaled q) (field q) n = b ∙ ap₂ (λ (x w : ℕ). products (2 ^ 32) (turns x n % 2 ^ 32) w 32) f (a ∙ ap (λ (x : ℕ). products x n (2 ^ 30) 32) s) in
+          let o : eqb (field q) 0 ≡ false = ne-eqb (field q) 0 (λ e. lt-irrefl 0 (lt-of-lt-of-le (normal-is q t .least) (le-of-eq e))) in
+          c ∙ ap (λ (x : ℕ). finished x n z) f ∙ ap (λ (u : Bool). cond u nan (round binary32 false (z * 2 ^ (turns (field q) n / 2 ^ 32)) (2 ^ 157))) o
+          ∙ power-is (scaled q) (field q) n z m ∙ sym (chosen q n t)
+      go (inr t) = c ∙ ap (λ (x : ℕ). finished x n z) (k .e ∙ field-none q t) ∙ sym (not-chosen q n t)
+
+-- the second row is in the range that the last rounding asks
+pub second-range : (g y z : ℕ) → g < 2 ^ 32 → Starts y → z ≡ products (2 ^ 32) g y 32 → (2 ^ 30 ≤ z) × (z < 2 ^ 32)
+second-range g y z G s e = (
+  le-trans (s .0) (le-trans (products-ge (2 ^ 32) g y (lit≤ tt) G 32 (le-refl 32)) (le-of-eq (sym e))),
+  lt-of-le-of-lt (le-of-eq e) (lt-of-lt-of-le (products-lt (2 ^ 32) g y (le-refl (2 ^ 32)) (lt-of-lt-of-le (pow-pos 30) (s .0)) G 32 (le-refl 32)) (omega (arith, s .1))),
+)
+
+pub second-is : (l : List ℕ) (e n t y z : ℕ) → l ≡ chainFrom (2 ^ 32) 33 → t ≡ turns e n → z ≡ products (getD l 0 0) (t % 2 ^ 32) y 32 → z ≡ products (2 ^ 32) (turns e n % 2 ^ 32) y 32
+second-is l e n t y z k h x = x ∙ ap₂ (λ (r g : ℕ). products r (g % 2 ^ 32) y 32) (first-of (2 ^ 32) l k) h
