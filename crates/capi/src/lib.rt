@@ -1,0 +1,16 @@
+// The C face: each call's reply is document 01's number, with its values in a lent slice of three places.
+mod header;
+mod jpeg;
+mod kind;
+mod lines;
+mod reply;
+mod set;
+mod shown;
+
+pub use header::dequant_read_header;
+pub use jpeg::dequant_jpeg_quant_values;
+pub use kind::dequant_expand_kind;
+pub use lines::dequant_read_record;
+pub use lines::dequant_write_record;
+pub use set::dequant_expand;
+pub use shown::dequant_lookup;

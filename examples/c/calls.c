@@ -1,0 +1,60 @@
+/* Calls each function once from C and checks what it answers and leaves. Prints the calls that fail; status 1 if any. */
+#include "dequant.h"
+#include <stdio.h>
+#include <string.h>
+
+static uint16_t rows[DEQUANT_ROWS], rows2[DEQUANT_ROWS];
+static int32_t samples[DEQUANT_ARENA], samples2[DEQUANT_ARENA];
+static float straight[DEQUANT_ARENA], transposed[DEQUANT_ARENA];
+static uint8_t text[100000];
+static uint64_t reply[3];
+static int failed;
+
+static void check(int ok, const char *what) {
+    if (!ok) {
+        printf("failed: %s\n", what);
+        failed = 1;
+    }
+}
+
+static int says(uint64_t a, uint64_t b, uint64_t c) { return reply[0] == a && reply[1] == b && reply[2] == c; }
+
+static void reading(void) {
+    static const uint8_t zeros[7];
+    check(dequant_read_header(zeros, 6, 0, 0, rows, DEQUANT_ROWS, reply, 3) == DEQUANT_SHORT && says(15, 46, 0), "six zero bytes");
+    check(dequant_read_header(zeros, 7, 0, 0, rows, DEQUANT_ROWS, reply, 3) == DEQUANT_DONE && says(52, 0, 0), "seven zero bytes");
+    reply[0] = 5;
+    check(dequant_read_header(zeros, 7, 0, 0, rows, DEQUANT_ROWS, reply, 2) == DEQUANT_LENT && says(5, 0, 0), "a reply of two places");
+    rows[0] = 7; /* kind 0 raw, with the denominator of JPEG values */
+    rows[3] = 0x1004;
+    for (int i = 0; i < 192; i++)
+        samples[i] = i + 1;
+}
+
+static void expanding(void) {
+    check(dequant_expand(rows, DEQUANT_ROWS, samples, DEQUANT_ARENA, straight, DEQUANT_ARENA, transposed, DEQUANT_ARENA, reply, 3) == DEQUANT_DONE, "expand");
+    check(straight[15] == 257.0f / 32768.0f, "denominator 1004, sample 16");
+    check(dequant_lookup(straight, DEQUANT_ARENA, transposed, DEQUANT_ARENA, 6, 1, DEQUANT_TRANSPOSED, reply, 3) == 0 && says(1, 4736, 128), "lookup");
+    check(transposed[4736 + 9] == straight[4736 + 17], "kind 6, place 17 straight is 9 transposed");
+    check(dequant_lookup(straight, DEQUANT_ARENA, transposed, DEQUANT_ARENA, 6, 1, 3, reply, 3) == 0 && says(0, 0, 0), "an unknown order");
+    check(dequant_jpeg_quant_values(rows, DEQUANT_ROWS, samples, DEQUANT_ARENA, 2, reply, 3) == DEQUANT_DONE && says(128, 64, 0), "JPEG values");
+    samples[70] = 0;
+    check(dequant_expand_kind(0, rows, DEQUANT_ROW, samples, 192, straight, 192, transposed, 192, reply, 3) == DEQUANT_WEIGHT && says(0, 1, 6), "a zero sample");
+    check(straight[0] == 0.0f && straight[191] == 0.0f && straight[192] != 0.0f, "outputs all zero");
+}
+
+static void records(void) {
+    check(dequant_write_record(rows, DEQUANT_ROWS, samples, DEQUANT_ARENA, text, 10, reply, 3) == DEQUANT_ROOM, "a short buffer");
+    uint64_t length = reply[0];
+    check(dequant_write_record(rows, DEQUANT_ROWS, samples, DEQUANT_ARENA, text, sizeof text, reply, 3) == DEQUANT_DONE && says(length, 0, 0), "a record");
+    check(dequant_read_record(text, length - 1, rows2, DEQUANT_ROWS, samples2, DEQUANT_ARENA, reply, 3) == DEQUANT_TEXT && says(length - 1, 0, 0), "a record cut short");
+    check(dequant_read_record(text, length, rows2, DEQUANT_ROWS, samples2, DEQUANT_ARENA, reply, 3) == DEQUANT_DONE, "a record read");
+    check(!memcmp(rows, rows2, sizeof rows) && !memcmp(samples, samples2, 192 * sizeof *samples), "a record reads back");
+}
+
+int main(void) {
+    reading();
+    expanding();
+    records();
+    return failed;
+}

@@ -1,0 +1,73 @@
+/* The dequantisation matrices of JPEG XL. Link with target/staticlib/libcapi.a (made by `rt staticlib capi`).
+
+   Each call returns a reply number and writes the reply's values, in the order named at its number below, to `reply`,
+   which has exactly 3 places; those that a reply does not use become 0. Where `reply_length` is another number the call
+   returns DEQUANT_LENT and changes nothing. A slice is a pointer (not null, also where the length is 0) and its length
+   in elements; slices that a call writes must overlap no other slice of that call. Nothing is allocated or kept. */
+#ifndef DEQUANT_H
+#define DEQUANT_H
+
+#include <stddef.h>
+#include <stdint.h>
+
+#ifdef __cplusplus
+extern "C" {
+#endif
+
+#define DEQUANT_ROW 128       /* numbers in the row of one kind */
+#define DEQUANT_ROWS 2176     /* numbers in the rows of a description: 17 kinds */
+#define DEQUANT_ARENA 394752  /* places of an arena of weights, and of the samples */
+
+enum dequant_reply {
+    DEQUANT_DONE = 0,    /* finished; its values: see each call */
+    DEQUANT_LENT = 1,    /* a wrong length, kind > 16 or channel > 2; nothing changed */
+    DEQUANT_SHORT = 2,   /* kind, bit: the field there runs past the last bit; rows of earlier kinds are written */
+    DEQUANT_MODE = 3,    /* kind, bit: mode not allowed for the kind; as SHORT */
+    DEQUANT_FLOAT = 4,   /* kind, bit: a number with exponent 31; as SHORT */
+    DEQUANT_RAW = 5,     /* kind, next bit: decode the raw samples from there, then resume at the next kind */
+    DEQUANT_ROW_BAD = 6, /* kind: a row that no reading writes; nothing changed */
+    DEQUANT_BAND = 7,    /* kind, channel, band: a band <= 0 or infinite; outputs all zero */
+    DEQUANT_WEIGHT = 8,  /* kind, channel, place: a weight >= 100,000,000 or <= 0 or NaN; outputs all zero */
+    DEQUANT_ROOM = 9,    /* length needed; nothing changed */
+    DEQUANT_TEXT = 10,   /* longest beginning shared with any record; nothing changed */
+    DEQUANT_NONE = 11    /* no JPEG values */
+};
+
+enum dequant_order { DEQUANT_UNNAMED = 0, DEQUANT_STRAIGHT = 1, DEQUANT_TRANSPOSED = 2 };
+
+/* Reads a header from a bit: at kind 0 from the flag, at kinds 1 to 16 from that kind's mode. DONE: the next bit. */
+uint32_t dequant_read_header(const uint8_t *header, size_t header_length, uint64_t bit, size_t kind,
+                             uint16_t *rows, size_t rows_length, uint64_t *reply, size_t reply_length);
+
+/* Expands one kind from its own row of 128 and, where it is raw, its 3 x width x height samples. */
+uint32_t dequant_expand_kind(size_t kind, const uint16_t *row, size_t row_length,
+                             const int32_t *samples, size_t samples_length,
+                             float *straight, size_t straight_length, float *transposed, size_t transposed_length,
+                             uint64_t *reply, size_t reply_length);
+
+/* Expands all kinds into two arenas; samples are an arena too, or none if no row is raw. */
+uint32_t dequant_expand(const uint16_t *rows, size_t rows_length, const int32_t *samples, size_t samples_length,
+                        float *straight, size_t straight_length, float *transposed, size_t transposed_length,
+                        uint64_t *reply, size_t reply_length);
+
+/* Says where a matrix stands; always DONE. Values: arena (0 straight, 1 transposed), first place, length; all 0 for bad arguments. */
+uint32_t dequant_lookup(const float *straight, size_t straight_length, const float *transposed, size_t transposed_length,
+                        size_t kind, size_t channel, uint32_t order, uint64_t *reply, size_t reply_length);
+
+/* Says where the JPEG values of a channel stand. DONE: their first place in the samples, and 64. */
+uint32_t dequant_jpeg_quant_values(const uint16_t *rows, size_t rows_length, const int32_t *samples, size_t samples_length,
+                                   size_t channel, uint64_t *reply, size_t reply_length);
+
+/* Writes a description's text record. DONE: its length; bytes past it stay. */
+uint32_t dequant_write_record(const uint16_t *rows, size_t rows_length, const int32_t *samples, size_t samples_length,
+                              uint8_t *text, size_t text_length, uint64_t *reply, size_t reply_length);
+
+/* Reads a text record; samples of kinds that are not raw stay. */
+uint32_t dequant_read_record(const uint8_t *text, size_t text_length, uint16_t *rows, size_t rows_length,
+                             int32_t *samples, size_t samples_length, uint64_t *reply, size_t reply_length);
+
+#ifdef __cplusplus
+}
+#endif
+
+#endif
