@@ -28,7 +28,7 @@ module _ (l : List Float) (area q : ℕ) (a b c : Float) (fit : q < area) (long 
   len2 : length (set (set l q a) (area + q) b) ≡ 3 * area
   len2 = length-set (set l q a) (area + q) b ∙ len1
 
-  put-length : length (putOf l area q a b c) ≡ 3 * area
+  pub put-length : length (putOf l area q a b c) ≡ 3 * area
   put-length = length-set (set (set l q a) (area + q) b) (area + area + q) c ∙ len2
 
   -- at another place

@@ -144,6 +144,14 @@ pub record Laid (f : ℕ → ℕ → Float) (area q : ℕ) (out : List Float) : 
   pub long : length out ≡ 3 * area
   pub each : (k j : ℕ) → k < 3 → j < q → getD out (k * area + j) nan ≡ f k j
 
+-- on a square grid f has at row y, column x what it has at row x, column y
+pub record Mirrored (f : ℕ → ℕ → Float) (w h : ℕ) : Type 0 where
+  pub same : w ≡ h → (k y x : ℕ) → x < w → y < w → f k (y * w + x) ≡ f k (x * w + y)
+
+-- b is a with the columns of row y before x laid, for every f that a has before that row
+pub record Copied (w h y x : ℕ) (a b : List Float) : Type 0 where
+  pub lays : (f : ℕ → ℕ → Float) → Mirrored f w h → Laid f (w * h) (y * w) a → Laid f (w * h) (y * w + x) b
+
 -- a list of three channels with place q of each set
 abbrev pub putOf : List Float → ℕ → ℕ → Float → Float → Float → List Float
 putOf l area q v0 v1 v2 = set (set (set l q v0) (area + q) v1) (area + area + q) v2

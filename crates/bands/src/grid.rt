@@ -17,7 +17,7 @@ ghost use lib.Ieee.{fin, binary32, mul, div, toUnsigned};
 ghost use Rattle.bands.specs.Bands.{atOf};
 ghost use Rattle.bands.specs.Position.{Cut, indexOf, fractionOf};
 ghost use Rattle.bands.specs.Weights.{stepsOf, segmentWeight, between};
-ghost use Rattle.bands.specs.Views.{chainFrom, Held, Stepped, ratioOf, gridCell, gridOf, Grid, Sized, Marked, Marks, Laid, putOf};
+ghost use Rattle.bands.specs.Views.{chainFrom, Held, Stepped, ratioOf, gridCell, gridOf, Grid, Sized, Marked, Marks, Laid, Copied, putOf};
 
 // The fraction in 2 ^ -32ths.
 fn steps(f: f32) -> u32
@@ -96,6 +96,30 @@ fn put(out: &mut [f32], area: usize, q: usize, v0: f32, v1: f32, v2: f32)
     out[area + area + q] = v2;
 }
 
+// On a square grid the weight at row y, column x is that at row x, column y, which lies there already: the
+// columns before y are copied. How many columns are.
+fn copied(out: &mut [f32], y: u16, w: u16, h: u16) -> u16
+    requires { ⌜ (2 ≤ w) × (w ≤ 256) × (y < h) × (length (now out) ≡ 3 * (w * h)) ⌝ }
+    ensures { λ r. ⌜ (r ≤ w) × Copied w h y r (now (out .entry)) (now (out .exit)) ⌝ }
+{
+    if w != h {
+        return 0;
+    }
+    let width = w as usize;
+    let row = y as usize;
+    let area = width * width;
+    let mut x: usize = 0;
+    while x < row {
+        let q = x * width + row;
+        let v0 = out[q];
+        let v1 = out[area + q];
+        let v2 = out[area + area + q];
+        put(out, area, row * width + x, v0, v1, v2);
+        x += 1;
+    }
+    y
+}
+
 // Row y from column `from` on, at the positions s; all that comes before lies there.
 fn weigh_row(
     out: &mut [f32],
@@ -149,8 +173,24 @@ fn fill_many(
     let top = top_chain();
     let mut y: u16 = 0;
     while y < h {
-        let s = marks(0, y, w, h, count);
-        weigh_row(out, &s, 0, y, w, h, count, b0, b1, b2, &r0, &r1, &r2, &top);
+        let from = copied(out, y, w, h);
+        let s = marks(from, y, w, h, count);
+        weigh_row(
+            out,
+            &s,
+            from,
+            y,
+            w,
+            h,
+            count,
+            b0,
+            b1,
+            b2,
+            &r0,
+            &r1,
+            &r2,
+            &top,
+        );
         y += 1;
     }
 }
