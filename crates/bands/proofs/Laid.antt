@@ -10,12 +10,7 @@ use lib.Seq.{getD-set-same, getD-set-other}
 use lib.Ieee.{Float, nan}
 use Rattle.bands.specs.Table.{tab}
 use Rattle.bands.proofs.TableLaws.{tab-of}
-use Rattle.bands.specs.Views.{putOf}
-
--- the first q places of each channel hold what f says
-pub record Laid (f : ℕ → ℕ → Float) (area q : ℕ) (out : List Float) : Type 0 where
-  pub long : length out ≡ 3 * area
-  pub each : (k j : ℕ) → k < 3 → j < q → getD out (k * area + j) nan ≡ f k j
+use Rattle.bands.specs.Views.{putOf, Laid}
 
 pub laid-none : (f : ℕ → ℕ → Float) (area : ℕ) (out : List Float) → length out ≡ 3 * area → Laid f area 0 out
 laid-none f area out e = record { long = e; each = λ k j h g. absurd (not-suc-le-zero g) }
@@ -33,7 +28,7 @@ module _ (l : List Float) (area q : ℕ) (a b c : Float) (fit : q < area) (long 
   len2 : length (set (set l q a) (area + q) b) ≡ 3 * area
   len2 = length-set (set l q a) (area + q) b ∙ len1
 
-  put-length : length (putOf l area q a b c) ≡ 3 * area
+  pub put-length : length (putOf l area q a b c) ≡ 3 * area
   put-length = length-set (set (set l q a) (area + q) b) (area + area + q) c ∙ len2
 
   -- at another place
@@ -84,6 +79,12 @@ module _ (l : List Float) (area q : ℕ) (a b c : Float) (fit : q < area) (long 
 -- the loop's turn, of the list r that `put` left
 pub laid-on : (f : ℕ → ℕ → Float) (l r : List Float) (area q : ℕ) (a b c : Float) → q < area → Laid f area q l → r ≡ putOf l area q a b c → a ≡ f 0 q → b ≡ f 1 q → c ≡ f 2 q → Laid f area (q + 1) r
 laid-on f l r area q a b c h i e x y z = subst (Laid f area (q + 1)) (sym e) (laid-more l area q a b c h (i .long) f (i .each) x y z)
+
+pub laid-next : (f : ℕ → ℕ → Float) (l r : List Float) (area q n : ℕ) (a b c : Float) → q + 1 ≡ n → q < area → Laid f area q l → r ≡ putOf l area q a b c → a ≡ f 0 q → b ≡ f 1 q → c ≡ f 2 q → Laid f area n r
+laid-next f l r area q n a b c s h i e x y z = subst (λ (m : ℕ). Laid f area m r) s (laid-on f l r area q a b c h i e x y z)
+
+pub laid-at : (f : ℕ → ℕ → Float) (area q n : ℕ) (l : List Float) → q ≡ n → Laid f area q l → Laid f area n l
+laid-at f area q n l s i = subst (λ (m : ℕ). Laid f area m l) s i
 
 -- all of it
 pub laid-all : (f : ℕ → ℕ → Float) (area q : ℕ) (out : List Float) → 0 < area → area ≤ q → Laid f area q out → out ≡ tab (3 * area) (λ p. f (p / area) (p % area))

@@ -31,6 +31,7 @@ pub mod MultRange
 pub mod TableLaws
 pub mod Laid
 pub mod Cells
+pub mod Mirror
 pub mod Agree
 pub mod Sound
 pub mod Signs

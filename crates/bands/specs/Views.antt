@@ -6,13 +6,12 @@ use Prim.Native.Nat.{ℕ, zero, suc, _+_, _-_, _*_, _/_, _%_, _^_, _≤_, _<_}
 use lib.IntN.{pos}
 use lib.ListN.{length, getD, set, replicate}
 use lib.Dec.{eqb}
-use lib.Ieee.{Float, nan, binary32, sub, div, round, ofInt}
+use lib.Ieee.{Float, nan, binary32, sub, mul, div, round, ofInt}
 use lib.Ieee.Exact.{HasValue}
 use Rattle.bands.specs.Root.{wholeRoot}
-use Rattle.bands.specs.Power.{chain, field, scaled, normal, turns}
+use Rattle.bands.specs.Power.{chain, field, scaled, normal, turns, P}
 use Rattle.bands.specs.Bands.{atOf, bandAt}
-use Rattle.bands.specs.Distance.{distanceOf}
-use Rattle.bands.specs.Position.{positionOf, indexOf, Cut}
+use Rattle.bands.specs.Position.{indexOf, Cut}
 use Rattle.bands.specs.Weights.{bandWeight}
 use Rattle.bands.specs.Table.{tab}
 use Rattle.bands.specs.declared.own_power.Ratio.{Ratio}
@@ -122,10 +121,36 @@ pub record Grid (n w h size : ℕ) : Type 0 where
   pub not-higher : h ≤ 256
   pub all : size ≡ 3 * (w * h)
 
--- the position of place q of a grid
-pub record Placed (q n w h : ℕ) (p : Float) : Type 0 where
-  pub is : p ≡ positionOf (distanceOf (q % w) (q / w) (w - 1) (h - 1)) n
-  pub cut : Cut n p
+-- a grid for two bands or more
+pub record Sized (n w h : ℕ) : Type 0 where
+  pub many : 2 ≤ n
+  pub few : n ≤ 16
+  pub wide : 2 ≤ w
+  pub not-wider : w ≤ 256
+  pub high : 2 ≤ h
+  pub not-higher : h ≤ 256
+
+-- t is the position of row y, column x in 2 ^ -32ths: the band before it, t / 2 ^ 32, and the power at t % 2 ^ 32 give the weight of any bands
+pub record Marked (x y n w h t : ℕ) : Type 0 where
+  pub inside : t / 2 ^ 32 + 1 < n
+  pub weight : (l : List Float) → mul binary32 (atOf l (t / 2 ^ 32)) (P (ratioAt l (t / 2 ^ 32)) (t % 2 ^ 32)) ≡ bandWeight (atOf l) n w h y x
+
+-- the positions of row y from column `from` on
+pub record Marks (from y n w h : ℕ) (l : List ℕ) : Type 0 where
+  pub each : (x : ℕ) → from ≤ x → x < w → Marked x y n w h (getD l x 0)
+
+-- the first q places of each channel hold what f says
+pub record Laid (f : ℕ → ℕ → Float) (area q : ℕ) (out : List Float) : Type 0 where
+  pub long : length out ≡ 3 * area
+  pub each : (k j : ℕ) → k < 3 → j < q → getD out (k * area + j) nan ≡ f k j
+
+-- on a square grid f has at row y, column x what it has at row x, column y
+pub record Mirrored (f : ℕ → ℕ → Float) (w h : ℕ) : Type 0 where
+  pub same : w ≡ h → (k y x : ℕ) → x < w → y < w → f k (y * w + x) ≡ f k (x * w + y)
+
+-- b is a with the columns of row y before x laid, for every f that a has before that row
+pub record Copied (w h y x : ℕ) (a b : List Float) : Type 0 where
+  pub lays : (f : ℕ → ℕ → Float) → Mirrored f w h → Laid f (w * h) (y * w) a → Laid f (w * h) (y * w + x) b
 
 -- a list of three channels with place q of each set
 abbrev pub putOf : List Float → ℕ → ℕ → Float → Float → Float → List Float

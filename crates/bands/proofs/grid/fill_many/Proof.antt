@@ -1,22 +1,21 @@
--- `grid::fill_many`: place by place (`Laid`). Assumes nothing.
-use Prim.Native.Nat.{_-_, _*_, _/_, _^_, _≤_, _<_}
-use native.Mathlib.Nat.{lt-of-le-of-lt, mod-lt}
+-- `grid::fill_many`: row by row (`Laid`), where a square grid has copied columns (`Copied`). Assumes nothing.
+use mathlib.Core.Path.{sym}
+use Prim.Native.Nat.{_-_, _*_, _≤_, _<_, zero-le}
+use native.Mathlib.Nat.{zero-mul, mul-comm, mul-le-mul-right, le-trans, le-of-eq}
 use native.Mathlib.Omega.{arith}
-use lib.Dec.{lit<}
-use lib.Pow.{pow-pos}
 use borrow.Author.Needs.{needs}
-use Rattle.bands.specs.Bands.{atOf}
-use Rattle.bands.specs.Views.{gridCell, gridOf}
-use Rattle.bands.proofs.Laid.{Laid, laid-none, laid-on, laid-all}
-use Rattle.bands.proofs.Cells.{cell-many, marked, mark-inside, area-le, area-pos}
+use Rattle.bands.specs.Views.{gridCell, gridOf, Laid}
+use Rattle.bands.proofs.Laid.{laid-none, laid-at, laid-all}
+use Rattle.bands.proofs.Cells.{sized, next-row, area-pos}
+use Rattle.bands.proofs.Mirror.{mirrored}
 use Rattle.bands.proofs.grid.fill_many.Statement.{statement}
 use Rattle.bands.proofs.grid.fill_many.Tie as tie
 
 abbrev Inv-loop : tie.InvT-loop
-Inv-loop out₀ b0 b1 b2 count w h r0 r1 r2 top area q₀ out q = (q ≤ w * h) × Laid (gridCell b0 b1 b2 count w h) (w * h) q out
+Inv-loop out₀ b0 b1 b2 count w h r0 r1 r2 top y₀ out y = (y ≤ h) × Laid (gridCell b0 b1 b2 count w h) (w * h) (y * w) out
 
 abbrev μ-loop : tie.MeasureT-loop
-μ-loop out₀ b0 b1 b2 count w h r0 r1 r2 top area q₀ out q = w * h - q
+μ-loop out₀ b0 b1 b2 count w h r0 r1 r2 top y₀ out y = h - y
 
 chains-requires : tie.Need-chains-requires Inv-loop μ-loop
 chains-requires c κs = c .before .pre .0 .few
@@ -30,55 +29,39 @@ chains-requires-3 c κs = c .before .before .before .pre .0 .few
 top-chain-requires : tie.Need-top-chain-requires Inv-loop μ-loop
 top-chain-requires c κs = search needs
 
-mul-area : tie.Need-mul-area Inv-loop μ-loop
-mul-area c = record { fits = lt-of-le-of-lt (area-le (c .before .before .before .before .before .args .w) (c .before .before .before .before .before .args .h) (c .before .before .before .before .before .pre .0 .not-wider) (c .before .before .before .before .before .pre .0 .not-higher)) (lit< tt) }
-
 loop-holds : tie.Need-loop-holds Inv-loop μ-loop
-loop-holds c = (omega arith, laid-none _ _ _ (c .before .before .before .before .before .pre .0 .all))
+loop-holds c =
+    let a = c .before .before .before .before .before .args in
+    (zero-le, laid-at (gridCell (a .b0 .now) (a .b1 .now) (a .b2 .now) (a .count) (a .w) (a .h)) (a .w * a .h) 0 (0 * a .w) (a .out .now) (sym (zero-mul (a .w))) (laid-none _ _ _ (c .before .before .before .before .before .pre .0 .all)))
 
-place-requires : tie.Need-place-requires Inv-loop μ-loop
-place-requires c κs = let h = c .before .before .before .before .before .before .before .pre in (h .0 .wide, h .0 .not-wider, h .0 .high, h .0 .not-higher, h .1, h .0 .few, c .loop-test .taken)
+copied-requires : tie.Need-copied-requires Inv-loop μ-loop
+copied-requires c κs = let g = c .before .before .before .before .before .before .before .before .pre .0 in (g .wide, g .not-wider, c .before .loop-test .taken, c .before .before .loop .inv .1 .long)
 
-mark-requires : tie.Need-mark-requires Inv-loop μ-loop
-mark-requires c κs = (c .before .before .before .before .before .before .before .before .pre .0 .few, c .place .ensures .cut)
+marks-requires : tie.Need-marks-requires Inv-loop μ-loop
+marks-requires c κs = (sized _ _ _ _ (c .before .before .before .before .before .before .before .before .before .before .before .pre .0) (c .before .before .before .before .before .before .before .before .before .before .before .pre .1), c .before .before .before .before .loop-test .taken)
 
-weigh-three-requires : tie.Need-weigh-three-requires Inv-loop μ-loop
-weigh-three-requires c κs =
-    let m = c .before .before .before .before .mark .ensures in
-    let f = c .before .before .before .before .before .before .before .before .before .before .before .before .before .pre .0 .few in
-    let i = mark-inside (c .before .before .before .before .mark .result) _ _ _ (m .0) (m .2) (m .1) in (
-      (omega (arith, i, f), mod-lt (c .before .before .before .before .mark .result) (pow-pos 32), c .before .before .before .before .before .before .before .before .top-chain .ensures),
-      (c .before .before .before .before .before .before .before .before .before .before .before .chains .ensures .each _ i, c .before .before .before .before .before .before .before .before .before .before .chains2 .ensures .each _ i, c .before .before .before .before .before .before .before .before .before .chains3 .ensures .each _ i),
+weigh-row-requires : tie.Need-weigh-row-requires Inv-loop μ-loop
+weigh-row-requires c κs =
+    let a = c .before .before .before .before .before .before .before .before .before .before .before .before .before .before .before .before .before .before .args in
+    let p = c .before .before .before .before .before .before .before .before .before .before .before .before .before .before .before .before .before .before .pre in
+    let l = c .before .before .before .before .before .before .before .before .before .before .before .before .loop in
+    let k = c .before .before .before .before .before .before .before .before .before .copied .ensures in (
+      (sized _ _ _ _ (p .0) (p .1), k .0, c .before .before .before .before .before .before .before .before .before .before .before .loop-test .taken, c .before .before .before .before .before .before .marks .ensures, k .1 .lays (gridCell (a .b0 .now) (a .b1 .now) (a .b2 .now) (a .count) (a .w) (a .h)) (mirrored (a .b0 .now) (a .b1 .now) (a .b2 .now) (a .count) (a .w) (a .h)) (l .inv .1)),
+      (c .before .before .before .before .before .before .before .before .before .before .before .before .before .before .before .before .chains .ensures, c .before .before .before .before .before .before .before .before .before .before .before .before .before .before .before .chains2 .ensures, c .before .before .before .before .before .before .before .before .before .before .before .before .before .before .chains3 .ensures, c .before .before .before .before .before .before .before .before .before .before .before .before .before .top-chain .ensures),
     )
 
-put-requires : tie.Need-put-requires Inv-loop μ-loop
-put-requires c κs = (c .before .before .before .before .before .before .before .before .loop-test .taken, c .before .before .before .before .before .before .before .before .before .loop .inv .1 .long, area-le (c .before .before .before .before .before .before .before .before .before .before .before .before .before .before .before .args .w) (c .before .before .before .before .before .before .before .before .before .before .before .before .before .before .before .args .h) (c .before .before .before .before .before .before .before .before .before .before .before .before .before .before .before .pre .0 .not-wider) (c .before .before .before .before .before .before .before .before .before .before .before .before .before .before .before .pre .0 .not-higher))
-
-add-q : tie.Need-add-q Inv-loop μ-loop
-add-q c =
-    let a = c .before .before .before .before .before .before .before .before .before .before .before .before .before .before .before .before .before .before .args in
-    let l = c .before .before .before .before .before .before .before .before .before .before .before .before .loop in
-    let t : l .q < a .w * a .h = c .before .before .before .before .before .before .before .before .before .before .before .loop-test .taken in
-    let e : a .w * a .h ≤ 65536 = area-le (a .w) (a .h) (c .before .before .before .before .before .before .before .before .before .before .before .before .before .before .before .before .before .before .pre .0 .not-wider) (c .before .before .before .before .before .before .before .before .before .before .before .before .before .before .before .before .before .before .pre .0 .not-higher) in
-    record { fits = omega arith }
+add-y : tie.Need-add-y Inv-loop μ-loop
+add-y c = omega (arith, c .before .before .before .before .before .before .before .before .before .before .before .before .before .before .loop-test .taken, c .before .before .before .before .before .before .before .before .before .before .before .before .before .before .before .before .before .before .before .before .before .pre .0 .not-higher)
 
 loop-less : tie.Need-loop-less Inv-loop μ-loop
-loop-less c = search needs
+loop-less c = omega (arith, c .before .before .before .before .before .before .before .before .before .before .before .before .before .before .loop-test .taken)
 
 loop-again : tie.Need-loop-again Inv-loop μ-loop
 loop-again c =
-    let a = c .before .before .before .before .before .before .before .before .before .before .before .before .before .before .before .before .before .before .args in
-    let l = c .before .before .before .before .before .before .before .before .before .before .before .before .loop in
-    let t : l .q < a .w * a .h = c .before .before .before .before .before .before .before .before .before .before .before .loop-test .taken in
-    let s = c .before .before .before .before .before .before .before .before .before .before .place .ensures in
-    let m = c .before .before .before .before .before .before .before .before .before .mark .ensures in
-    let v = c .before .before .before .before .weigh-three .ensures in (
-      omega arith,
-      laid-on (gridCell (a .b0 .now) (a .b1 .now) (a .b2 .now) (a .count) (a .w) (a .h)) (l .out) _ (a .w * a .h) (l .q) _ _ _ t (l .inv .1) (c .before .before .put .ensures)
-          (cell-many (atOf (a .b0 .now)) (l .q) (a .count) (a .w) (a .h) _ _ (c .before .before .before .before .before .before .before .before .before .before .before .before .before .before .before .before .before .before .pre .1) s (marked (a .b0 .now) _ _ _ _ (m .0) (m .2) (m .1) (v .0)))
-          (cell-many (atOf (a .b1 .now)) (l .q) (a .count) (a .w) (a .h) _ _ (c .before .before .before .before .before .before .before .before .before .before .before .before .before .before .before .before .before .before .pre .1) s (marked (a .b1 .now) _ _ _ _ (m .0) (m .2) (m .1) (v .1)))
-          (cell-many (atOf (a .b2 .now)) (l .q) (a .count) (a .w) (a .h) _ _ (c .before .before .before .before .before .before .before .before .before .before .before .before .before .before .before .before .before .before .pre .1) s (marked (a .b2 .now) _ _ _ _ (m .0) (m .2) (m .1) (v .2))),
-    )
+    let a = c .before .before .before .before .before .before .before .before .before .before .before .before .before .before .before .before .before .before .before .before .before .args in
+    let l = c .before .before .before .before .before .before .before .before .before .before .before .before .before .before .before .loop in
+    let t : l .y < a .h = c .before .before .before .before .before .before .before .before .before .before .before .before .before .before .loop-test .taken in
+    (omega (arith, t), laid-at (gridCell (a .b0 .now) (a .b1 .now) (a .b2 .now) (a .count) (a .w) (a .h)) (a .w * a .h) _ _ _ (next-row (l .y) (a .w)) (c .before .before .weigh-row .ensures))
 
 same-length : tie.Need-same-length Inv-loop μ-loop
 same-length c = search needs
@@ -87,8 +70,9 @@ returns : tie.Need-returns Inv-loop μ-loop
 unfolding gridOf
 returns c =
     let a = c .before .before .before .before .before .before .before .args in
-    laid-all (gridCell (a .b0 .now) (a .b1 .now) (a .b2 .now) (a .count) (a .w) (a .h)) (a .w * a .h) (c .before .loop .q) (c .before .loop .out)
-    (area-pos (a .w) (a .h) (c .before .before .before .before .before .before .before .pre .0 .wide) (c .before .before .before .before .before .before .before .pre .0 .high)) (c .loop-test .left) (c .before .loop .inv .1)
+    let l = c .before .loop in
+    laid-all (gridCell (a .b0 .now) (a .b1 .now) (a .b2 .now) (a .count) (a .w) (a .h)) (a .w * a .h) (l .y * a .w) (l .out)
+    (area-pos (a .w) (a .h) (c .before .before .before .before .before .before .before .pre .0 .wide) (c .before .before .before .before .before .before .before .pre .0 .high)) (le-trans (le-of-eq (mul-comm (a .w) (a .h))) (mul-le-mul-right (a .w) (c .loop-test .left))) (l .inv .1)
 
 pub fill-many-spec : {M : Type 1} → statement M
 fill-many-spec =
@@ -100,13 +84,11 @@ fill-many-spec =
     chains-requires-2
     chains-requires-3
     top-chain-requires
-    mul-area
     loop-holds
-    place-requires
-    mark-requires
-    weigh-three-requires
-    put-requires
-    add-q
+    copied-requires
+    marks-requires
+    weigh-row-requires
+    add-y
     loop-less
     loop-again
     same-length

@@ -5,8 +5,8 @@ use Prim.Native.Nat.{_-_, _*_, _≤_, _<_}
 use native.Mathlib.Omega.{arith}
 use borrow.Author.Needs.{needs}
 use Rattle.bands.specs.Bands.{atOf}
-use Rattle.bands.specs.Views.{gridCell, gridOf}
-use Rattle.bands.proofs.Laid.{Laid, laid-none, laid-on, laid-all}
+use Rattle.bands.specs.Views.{gridCell, gridOf, Laid}
+use Rattle.bands.proofs.Laid.{laid-none, laid-on, laid-all}
 use Rattle.bands.proofs.Cells.{cell-one, area-le, area-pos}
 use Rattle.bands.proofs.grid.fill_one.Statement.{statement}
 use Rattle.bands.proofs.grid.fill_one.Tie as tie
