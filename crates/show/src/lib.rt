@@ -43,6 +43,28 @@ pub fn reading(r: Reading) -> bool {
     }
 }
 
+// A refused reading, a line for each number; whether there was one. A raw entry is refused too: its samples aren't here.
+pub fn refused(r: Reading) -> bool {
+    match r {
+        Reading::Done { next: _ } => false,
+        Reading::Lent => {
+            line(b"refused=", 1);
+            true
+        }
+        Reading::Short { kind, bit } => refused_at(2, kind, bit),
+        Reading::Mode { kind, bit } => refused_at(3, kind, bit),
+        Reading::Float { kind, bit } => refused_at(4, kind, bit),
+        Reading::Raw { kind, next } => refused_at(5, kind, next),
+    }
+}
+
+fn refused_at(number: u64, kind: usize, bit: u64) -> bool {
+    line(b"refused=", number);
+    line(b"kind=", kind as u64);
+    line(b"bit=", bit);
+    true
+}
+
 fn wide(x: u16) -> u64 {
     x as u64
 }

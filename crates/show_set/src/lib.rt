@@ -1,7 +1,6 @@
 // Lines on weights that programs write. What is written no contract can say: each function is proved safe and ending.
 use libc::STDOUT_FILENO;
 use matrix::Expanded;
-use params::Reading;
 
 fn wide(x: u32) -> u64 {
     x as u64
@@ -129,30 +128,11 @@ pub fn refused(r: Expanded) {
     }
 }
 
-// A refused reading, a line for each number; whether there was one. A raw entry is refused too: its samples aren't here.
-fn reading_refused(r: Reading) -> bool {
-    match r {
-        Reading::Done { next: _ } => false,
-        Reading::Lent => show::line(b"refused=", 1),
-        Reading::Short { kind, bit } => refused_at(2, kind, bit),
-        Reading::Mode { kind, bit } => refused_at(3, kind, bit),
-        Reading::Float { kind, bit } => refused_at(4, kind, bit),
-        Reading::Raw { kind, next } => refused_at(5, kind, next),
-    }
-}
-
-fn refused_at(number: u64, kind: usize, bit: u64) -> bool {
-    show::line(b"refused=", number);
-    show::line(b"kind=", kind as u64);
-    show::line(b"bit=", bit);
-    true
-}
-
 // Expands the set of a header without raw kinds; whether that was done. What refuses it is written.
 pub fn expand_header(header: &[u8], straight: &mut [f32], transposed: &mut [f32]) -> bool {
     let mut rows = [0u16; 2176];
     let r = params::read_header(header, 0, 0, &mut rows);
-    if reading_refused(r) {
+    if show::refused(r) {
         return false;
     }
     let e = dequant::expand(&rows, &[], straight, transposed);
