@@ -211,12 +211,21 @@ fn full(part: &mut [i32], buffer: &mut [u8]) {
     read(show_record::first(buffer, n), &mut again, part);
 }
 
+fn all(input: &[u8], part: &mut [i32], buffer: &mut [u8]) {
+    run_all(input, part, buffer);
+    show::text(b"full\n");
+    full(part, buffer);
+}
+
+// With samples, and a buffer that is long enough for each case and for the run at the end.
+fn with_buffer(input: &[u8]) {
+    let mut part = [0i32; 394752];
+    let mut buffer = [0u8; 4500000];
+    all(input, &mut part, &mut buffer);
+}
+
 fn main() {
     let mut input = io::large_buffer();
     let n = io::read_full(STDIN_FILENO, &mut input);
-    let mut part = [0i32; 394752];
-    let mut buffer = [0u8; 4500000];
-    run_all(&input[..n], &mut part, &mut buffer);
-    show::text(b"full\n");
-    full(&mut part, &mut buffer);
+    with_buffer(&input[..n]);
 }
