@@ -65,11 +65,13 @@ impl<'b> Bitstream<'b> {
             Some(end) if end <= all => self.at = end,
             _ => return Err(Error::Short(first)),
         }
-        Ok((0..n).fold(0, |v, i| {
-            let p = first + i;
-            let bit = self.bytes[(p / 8) as usize] >> (p % 8) & 1;
-            v | (bit as u32) << i
-        }))
+        // the eight bytes from the field's first on, zeros past the end: a field has at most 32 bits
+        let from = &self.bytes[(first / 8) as usize..];
+        let word = match from.first_chunk::<8>() {
+            Some(eight) => u64::from_le_bytes(*eight),
+            None => from.iter().rev().fold(0, |v, &b| v << 8 | b as u64),
+        };
+        Ok((word >> (first % 8) & ((1 << n) - 1)) as u32)
     }
 
     pub fn read_bool(&mut self) -> Result<bool, Error> {
@@ -85,11 +87,11 @@ impl<'b> Bitstream<'b> {
 
 /// A half float's value, none where its exponent is 31.
 pub fn half(h: u16) -> Option<f32> {
-    let digits = (h & 0x3ff) as f32;
-    let size = match h >> 10 & 31 {
+    let digits = (h & 0x3ff) as u32;
+    let size = match (h >> 10 & 31) as u32 {
         31 => return None,
-        0 => digits * 2f32.powi(-24),
-        e => (1024.0 + digits) * 2f32.powi(e as i32 - 25),
+        0 => digits as f32 * f32::from_bits((127 - 24) << 23),
+        e => f32::from_bits((e + 127 - 15) << 23 | digits << 13),
     };
     Some(if h >> 15 == 1 { -size } else { size })
 }

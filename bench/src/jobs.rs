@@ -1,0 +1,177 @@
+//! What is timed. Buffers are made once, outside the time, and not cleared between calls; the Rust makes its own
+//! vectors, as its callers have it do.
+use crate::kinds::NAMES;
+use crate::make::{self, Bits, Rng};
+use crate::ported::{self, Entry};
+use dequant::{Order, Reply, ARENA, ROW, ROWS};
+use std::hint::black_box;
+use std::rc::Rc;
+
+pub type Side = Box<dyn FnMut()>;
+
+/// One line of the table: ours and, where it has such a thing, the Rust's, over so many units.
+pub struct Job {
+    pub name: &'static str,
+    pub unit: &'static str,
+    pub units: usize,
+    pub ours: Side,
+    pub rust: Option<Side>,
+}
+
+/// Reads a whole header, going on behind each raw kind. The next bit.
+fn read(header: &[u8], rows: &mut [u16]) -> u64 {
+    let (mut bit, mut kind) = (0, 0);
+    loop {
+        match dequant::read_header(header, bit, kind, rows) {
+            Reply::Done(next) => return next,
+            Reply::Raw { kind: 16, next } => return next,
+            Reply::Raw { kind: at, next } => (bit, kind) = (next, at + 1),
+            refused => panic!("{refused:?}"),
+        }
+    }
+}
+
+fn rows_of(header: &[u8]) -> Vec<u16> {
+    let mut rows = vec![0; ROWS];
+    read(header, &mut rows);
+    rows
+}
+
+/// A set from its header: read and expanded here, `DequantMatrixSet::parse` there.
+fn set(name: &'static str, header: Vec<u8>, samples: Vec<i32>) -> Job {
+    let mut rows = vec![0; ROWS];
+    let (mut straight, mut transposed) = (vec![0.0; ARENA], vec![0.0; ARENA]);
+    let given: Vec<standins::Samples> = if samples.is_empty() { vec![] } else { (0..17).map(|k| channels(&samples, k)).collect() };
+    let (own, theirs) = (header.clone(), header);
+    let ours = move || {
+        read(black_box(&own), &mut rows);
+        let reply = dequant::expand(&rows, &samples, &mut straight, &mut transposed);
+        assert_eq!(reply, Reply::Done(0));
+        black_box((&straight, &transposed));
+    };
+    let rust = move || {
+        standins::give(given.iter().cloned());
+        let (set, _) = ported::parse_set(black_box(&theirs), 0);
+        black_box(set.expect("a set"));
+    };
+    Job { name, unit: "weight", units: ARENA, ours: Box::new(ours), rust: Some(Box::new(rust)) }
+}
+
+/// A raw kind's samples, a channel each.
+fn channels(samples: &[i32], kind: usize) -> standins::Samples {
+    let area = dequant::places(kind) / 3;
+    [0, 1, 2].map(|c| Rc::new(samples[dequant::start(kind) + c * area..][..area].to_vec()))
+}
+
+/// All kinds in mode 6 with 16 bands that fall slowly.
+fn sixteen_bands() -> Vec<u8> {
+    let mut bits = Bits::default();
+    bits.put(0, 1);
+    for _ in 0..17 {
+        bits.put(6, 3);
+        bits.put(15, 4);
+        for channel in 0..3 {
+            bits.put(make::nearest(40.0 - 7.0 * channel as f64) as u32, 16);
+            bits.halves((1..16).map(|i| make::nearest(-0.11 * (1 + (i + channel) % 4) as f64)));
+        }
+    }
+    bits.bytes
+}
+
+fn all_raw() -> (Vec<u8>, Vec<i32>) {
+    let mut rng = Rng(17);
+    let samples = (0..ARENA).map(|_| 1 + rng.below(60000) as i32).collect();
+    (make::all_raw([0x1004; 17]).bytes, samples)
+}
+
+/// One kind in mode 5, 8x8: our straight and transposed outputs, the Rust's straight one.
+fn mode_5() -> Job {
+    let kind = 10;
+    let row = vec![0u16; ROW];
+    let (mut straight, mut transposed) = ([0.0; 192], [0.0; 192]);
+    let ours = move || {
+        assert_eq!(dequant::expand_kind(kind, black_box(&row), &[], &mut straight, &mut transposed), Reply::Done(0));
+        black_box((&straight, &transposed));
+    };
+    let rust = move || {
+        black_box(Entry::default(black_box(kind)).into_matrix().expect("a matrix"));
+    };
+    Job { name: "mode5", unit: "weight", units: 192, ours: Box::new(ours), rust: Some(Box::new(rust)) }
+}
+
+/// The longest header: read into rows here, into the Rust's parameters there.
+fn longest() -> Job {
+    let bits = make::longest(&mut Rng(1));
+    let units = bits.bytes.len();
+    let (own, theirs) = (bits.bytes.clone(), bits.bytes);
+    let mut rows = vec![0; ROWS];
+    let ours = move || {
+        black_box(read(black_box(&own), &mut rows));
+    };
+    let rust = move || {
+        let (entries, next) = ported::read_from(black_box(&theirs), 0, 0);
+        next.expect("a header");
+        black_box(entries);
+    };
+    Job { name: "header", unit: "byte", units, ours: Box::new(ours), rust: Some(Box::new(rust)) }
+}
+
+/// The record of a set that is all raw.
+fn records() -> [Job; 2] {
+    let (header, samples) = all_raw();
+    let rows = rows_of(&header);
+    let mut text = vec![0; 12 * ARENA];
+    let Reply::Done(length) = dequant::write_record(&rows, &samples, &mut text) else { panic!("no record") };
+    let units = length as usize;
+    text.truncate(units);
+    let mut out = vec![0u8; units];
+    let write = move || {
+        assert_eq!(dequant::write_record(&rows, &samples, black_box(&mut out)), Reply::Done(length));
+    };
+    let (mut back, mut values) = (vec![0; ROWS], vec![0; ARENA]);
+    let read = move || {
+        assert_eq!(dequant::read_record(black_box(&text), &mut back, &mut values), Reply::Done(0));
+        black_box((&back, &values));
+    };
+    [("write", Box::new(write) as Side), ("read", Box::new(read))].map(|(name, ours)| Job { name, unit: "byte", units, ours, rust: None })
+}
+
+/// Every kind and channel in both orders.
+fn lookup() -> Job {
+    let (mut straight, mut transposed) = (vec![0.0; ARENA], vec![0.0; ARENA]);
+    dequant::expand(&rows_of(&[1]), &[], &mut straight, &mut transposed);
+    let ours = move || {
+        for kind in 0..17 {
+            for channel in 0..3 {
+                for order in [Order::Straight, Order::Transposed] {
+                    black_box(dequant::lookup(black_box(&straight), &transposed, kind, channel, order));
+                }
+            }
+        }
+    };
+    let (set, _) = ported::parse_set(&[1], 0);
+    let set = set.expect("a set");
+    let rust = move || {
+        for names in NAMES {
+            for channel in 0..3 {
+                black_box(black_box(&set).get(channel, names[0]));
+                black_box(black_box(&set).get_transposed(channel, names[0]));
+            }
+        }
+    };
+    Job { name: "lookup", unit: "call", units: 102, ours: Box::new(ours), rust: Some(Box::new(rust)) }
+}
+
+pub fn all() -> Vec<Job> {
+    let (header, samples) = all_raw();
+    let mut jobs = vec![
+        set("default", vec![1], vec![]),
+        set("bands16", sixteen_bands(), vec![]),
+        set("raw", header, samples),
+        mode_5(),
+        longest(),
+    ];
+    jobs.extend(records());
+    jobs.push(lookup());
+    jobs
+}
