@@ -2,8 +2,9 @@
 use crate::Expanded;
 use transform::Kind;
 ghost use mathlib.Core.Path.{_≡_};
-ghost use Prim.Native.Nat.{_*_, _≤_, _<_};
+ghost use Prim.Native.Nat.{_+_, _*_, _≤_, _<_};
 ghost use lib.ListN.{length, getD, replicate};
+ghost use lib.Seq.{sets};
 ghost use lib.Ieee.{nan};
 ghost use Rattle.transform.specs.Kinds.{placesOf};
 ghost use Rattle.bands.specs.Bands.{nought};
@@ -62,26 +63,30 @@ pub fn clear(s: &mut [f32])
     }
 }
 
-// The place of a kind's straight part that the place p of its transposed part shows.
-fn turned_place(w: usize, h: usize, p: usize) -> usize
-    requires { ⌜ (w * h ≤ 65536) × (p < 3 * (w * h)) ⌝ }
-    ensures { λ r. ⌜ r ≡ turned w h p ⌝ }
+// Line l of the transposed weights of three channels, h places: a column of the straight ones.
+fn turn_line(straight: &[f32], transposed: &mut [f32], l: usize, w: usize, h: usize)
+    requires { ⌜ (w * h ≤ 65536) × (0 < h) × (l < 3 * w) × (length (now straight) ≡ 3 * (w * h)) × (length (now transposed) ≡ 3 * (w * h)) ⌝ }
+    ensures { λ r. ⌜ now (transposed .exit) ≡ sets (now (transposed .entry)) (l * h) (tab h (λ y. getD (now (straight .entry)) (turned w h (l * h + y)) nan)) ⌝ }
 {
-    let area = w * h;
-    let r = p % area;
-    p / area * area + (r % h * w + r / h)
+    let from = l / w * (w * h) + l % w;
+    let to = l * h;
+    let mut y = 0;
+    while y < h {
+        transposed[to + y] = straight[from + y * w];
+        y += 1;
+    }
 }
 
-// Three channels of width w and height h, transposed.
+// Three channels of width w and height h, transposed line by line: no place is worked out by a division.
 fn turn(straight: &[f32], transposed: &mut [f32], w: usize, h: usize)
-    requires { ⌜ (w * h ≤ 65536) × (length (now straight) ≡ 3 * (w * h)) × (length (now transposed) ≡ 3 * (w * h)) ⌝ }
+    requires { ⌜ (w * h ≤ 65536) × (0 < h) × (w ≤ 65536) × (length (now straight) ≡ 3 * (w * h)) × (length (now transposed) ≡ 3 * (w * h)) ⌝ }
     ensures { λ r. ⌜ now (transposed .exit) ≡ tab (3 * (w * h)) (λ p. getD (now (straight .entry)) (turned w h p) nan) ⌝ }
 {
-    let n = 3 * (w * h);
-    let mut p = 0;
-    while p < n {
-        transposed[p] = straight[turned_place(w, h, p)];
-        p += 1;
+    let lines = 3 * w;
+    let mut l = 0;
+    while l < lines {
+        turn_line(straight, transposed, l, w, h);
+        l += 1;
     }
 }
 

@@ -3,8 +3,8 @@ use mathlib.Core.Path.{refl}
 use Prim.Native.Nat.{_-_}
 use native.Mathlib.Omega.{arith}
 use lib.ListN.{length}
-use Rattle.transform.proofs.Laws.{area-le}
-use Rattle.matrix.proofs.Lasts.{places-is, area-is, weight-refused, weight-done, whole-turned}
+use Rattle.transform.proofs.Laws.{width-le, area-le}
+use Rattle.matrix.proofs.Lasts.{high, places-is, area-is, weight-refused, weight-done, whole-turned}
 use borrow.Author.Needs.{needs}
 use Rattle.matrix.proofs.outputs.finish.Statement.{statement}
 use Rattle.matrix.proofs.outputs.finish.Tie as tie
@@ -66,7 +66,11 @@ turn-requires c κs =
     let l = area-le (a .kind) in
     let s = c .before .before .before .before .before .before .before .before .before .pre .1 in
     let t = c .before .before .before .before .before .before .before .before .before .pre .2 in
-    (omega arith, omega arith, omega arith)
+    let wide = width-le (a .kind) in
+    let tall = high (a .kind) (c .before .before .before .before .before .before .before .before .before .pre .0) in
+    let e = c .before .width .ensures in
+    let f = c .height .ensures in
+    (omega arith, omega arith, omega arith, omega arith, omega arith)
 
 same-length-3 : tie.Need-same-length-3
 same-length-3 c = search needs
