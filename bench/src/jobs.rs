@@ -7,7 +7,7 @@ use dequant::{Order, Reply, ARENA, ROW, ROWS};
 use std::hint::black_box;
 use std::rc::Rc;
 
-pub type Side = Box<dyn FnMut()>;
+pub type Side = Box<dyn FnMut() + Send>;
 
 /// One line of the table: ours and, where it has such a thing, the Rust's, over so many units.
 pub struct Job {
@@ -15,7 +15,7 @@ pub struct Job {
     pub unit: &'static str,
     pub units: usize,
     pub ours: Side,
-    pub rust: Option<Side>,
+    pub rust: Option<Box<dyn FnMut()>>,
 }
 
 /// Reads a whole header, going on behind each raw kind. The next bit.
@@ -116,24 +116,53 @@ fn longest() -> Job {
     Job { name: "header", unit: "byte", units, ours: Box::new(ours), rust: Some(Box::new(rust)) }
 }
 
-/// The record of a set that is all raw.
-fn records() -> [Job; 2] {
+/// The rows and samples of a set that is all raw, and its record.
+fn recorded() -> (Vec<u16>, Vec<i32>, Vec<u8>) {
     let (header, samples) = all_raw();
     let rows = rows_of(&header);
     let mut text = vec![0; 12 * ARENA];
     let Reply::Done(length) = dequant::write_record(&rows, &samples, &mut text) else { panic!("no record") };
-    let units = length as usize;
-    text.truncate(units);
-    let mut out = vec![0u8; units];
-    let write = move || {
-        assert_eq!(dequant::write_record(&rows, &samples, black_box(&mut out)), Reply::Done(length));
+    text.truncate(length as usize);
+    (rows, samples, text)
+}
+
+fn write() -> Job {
+    let (rows, samples, mut text) = recorded();
+    let units = text.len();
+    let ours = move || {
+        assert_eq!(dequant::write_record(&rows, &samples, black_box(&mut text)), Reply::Done(units as u64));
     };
-    let (mut back, mut values) = (vec![0; ROWS], vec![0; ARENA]);
-    let read = move || {
-        assert_eq!(dequant::read_record(black_box(&text), &mut back, &mut values), Reply::Done(0));
-        black_box((&back, &values));
+    Job { name: "write", unit: "byte", units, ours: Box::new(ours), rust: None }
+}
+
+fn read_back() -> Job {
+    let (mut rows, mut samples, text) = recorded();
+    let units = text.len();
+    let ours = move || {
+        assert_eq!(dequant::read_record(black_box(&text), &mut rows, &mut samples), Reply::Done(0));
+        black_box((&rows, &samples));
     };
-    [("write", Box::new(write) as Side), ("read", Box::new(read))].map(|(name, ours)| Job { name, unit: "byte", units, ours, rust: None })
+    Job { name: "read", unit: "byte", units, ours: Box::new(ours), rust: None }
+}
+
+/// The JPEG values of the three channels, and where the Rust keeps them.
+fn jpeg() -> Job {
+    let (header, samples) = all_raw();
+    let rows = rows_of(&header);
+    standins::give((0..17).map(|k| channels(&samples, k)));
+    let (set, _) = ported::parse_set(&header, 0);
+    let set = set.expect("a set");
+    let ours = move || {
+        for channel in 0..3 {
+            black_box(dequant::jpeg_quant_values(black_box(&rows), &samples, channel).expect("values"));
+        }
+    };
+    let rust = move || {
+        for channel in 0..3 {
+            black_box(black_box(&set).jpeg_quant_values(channel).expect("values"));
+        }
+    };
+    Job { name: "jpeg", unit: "call", units: 3, ours: Box::new(ours), rust: Some(Box::new(rust)) }
 }
 
 /// Every kind and channel in both orders.
@@ -162,16 +191,18 @@ fn lookup() -> Job {
     Job { name: "lookup", unit: "call", units: 102, ours: Box::new(ours), rust: Some(Box::new(rust)) }
 }
 
-pub fn all() -> Vec<Job> {
-    let (header, samples) = all_raw();
-    let mut jobs = vec![
-        set("default", vec![1], vec![]),
-        set("bands16", sixteen_bands(), vec![]),
-        set("raw", header, samples),
-        mode_5(),
-        longest(),
-    ];
-    jobs.extend(records());
-    jobs.push(lookup());
-    jobs
-}
+/// All jobs, each made when it is run.
+pub const ALL: [fn() -> Job; 9] = [
+    || set("default", vec![1], vec![]),
+    || set("bands16", sixteen_bands(), vec![]),
+    || {
+        let (header, samples) = all_raw();
+        set("raw", header, samples)
+    },
+    mode_5,
+    longest,
+    write,
+    read_back,
+    lookup,
+    jpeg,
+];

@@ -2,6 +2,7 @@
 //!
 //! `bench ROUNDS` prints the table: of each job and side the least time of ROUNDS rounds, in which the sides take
 //! turns. `bench JOB ours|rust TIMES` runs one side of one job alone, for a tool that counts instructions.
+//! `bench stack BYTES` runs each call of ours in a thread with a stack of so many bytes.
 extern crate standins as jxl_bitstream;
 extern crate standins as jxl_grid;
 extern crate standins as jxl_modular;
@@ -19,16 +20,17 @@ mod make;
 mod ported;
 
 mod jobs;
+mod stack;
 
 pub type Error = standins::Error;
 pub type Result<T> = std::result::Result<T, Error>;
 pub use kinds::TransformType;
 
-use jobs::{Job, Side};
+use jobs::Job;
 use std::time::{Duration, Instant};
 
 /// The time of one call, of as many as fill a millisecond or more.
-fn time(side: &mut Side) -> Duration {
+fn time(side: &mut dyn FnMut()) -> Duration {
     let (mut calls, least) = (1, Duration::from_millis(1));
     loop {
         let start = Instant::now();
@@ -56,7 +58,8 @@ fn best(job: &mut Job, rounds: u32) -> (Duration, Option<Duration>) {
 fn table(rounds: u32) {
     println!("| job | unit | ours, ns | Rust, ns | ratio | ours, MB/s |");
     println!("|---|---|---|---|---|---|");
-    for mut job in jobs::all() {
+    for make in jobs::ALL {
+        let mut job = make();
         let (ours, rust) = best(&mut job, rounds);
         let each = |d: Duration| d.as_nanos() as f64 / job.units as f64;
         let other = rust.map_or(["", ""].map(String::from), |d| {
@@ -71,13 +74,14 @@ fn main() {
     let given: Vec<String> = std::env::args().skip(1).collect();
     match &given[..] {
         [rounds] => table(rounds.parse().expect("how many rounds")),
+        [word, bytes] if word == "stack" => stack::small(bytes.parse().expect("how many bytes")),
         [name, side, times] => {
-            let mut job = jobs::all().into_iter().find(|j| j.name == name).expect("a job of the table");
+            let mut job = jobs::ALL.iter().map(|make| make()).find(|j| j.name == name).expect("a job of the table");
             let mut side = if side == "ours" { job.ours } else { job.rust.take().expect("a job that the Rust has") };
             (0..times.parse().expect("how many times")).for_each(|_: u32| side());
         }
         _ => {
-            eprintln!("usage: bench ROUNDS, or bench JOB ours|rust TIMES");
+            eprintln!("usage: bench ROUNDS, bench JOB ours|rust TIMES, or bench stack BYTES");
             std::process::exit(2);
         }
     }
