@@ -51,12 +51,23 @@ fn guess(x: u64) -> u64 {
     0
 }
 
+// r, or one more where the square of that is not too large: a guess from below is at most one off. Nothing is promised.
+fn up(r: u64, x: u64) -> u64 {
+    if r < 4294967295 {
+        let s = r + 1;
+        if s * s <= x {
+            return s;
+        }
+    }
+    r
+}
+
 // The whole root of x: the largest r with r * r <= x. A guess is right where r * r <= x < (r + 1) * (r + 1),
 // which is nearly always; where it is not, the digits are worked out.
 pub fn whole_root(x: u64) -> u64
     ensures { λ r. ⌜ r ≡ wholeRoot x ⌝ }
 {
-    let r = guess(x);
+    let r = up(guess(x), x);
     if r < 4294967296 {
         let square = r * r;
         if square <= x {

@@ -1,19 +1,17 @@
 -- `whole::whole_root` meets its contract: a guess that passes the test is the root, since there is only one. Assumes nothing.
-use Prim.Native.Nat.{ℕ, _+_, _-_, _*_, _^_, _≤_, _<_}
-use native.Mathlib.Nat.{lt-of-le-of-lt, mul-le-mul}
+use Prim.Native.Nat.{ℕ, _+_, _-_, _*_, _≤_}
 use native.Mathlib.Omega.{arith}
-use lib.Dec.{lit<}
 use borrow.Author.Needs.{needs}
 use Rattle.bands.specs.Root.{wholeRoot, IsRoot}
-use Rattle.bands.proofs.Roots.{root-unique, whole-is, sq-suc}
+use Rattle.bands.proofs.Roots.{root-unique, whole-is, sq-suc, square-small}
 use Rattle.bands.proofs.whole.whole_root.Statement.{statement}
 use Rattle.bands.proofs.whole.whole_root.Tie as tie
 
-square-small : (r : ℕ) → r < 2 ^ 32 → r * r < 2 ^ 64
-square-small r h = lt-of-le-of-lt (mul-le-mul {n₂ = 2 ^ 32 - 1} {m₂ = 2 ^ 32 - 1} (omega arith) (omega arith)) (lit< tt)
-
 guess-requires : tie.Need-guess-requires
 guess-requires c κs = search needs
+
+up-requires : tie.Need-up-requires
+up-requires c κs = search needs
 
 mul-square : tie.Need-mul-square
 mul-square c = record { fits = square-small _ (c .if1 .taken) }
@@ -35,4 +33,4 @@ returns-2 c = search needs
 
 pub whole-root-spec : {M : Type 1} → statement M
 whole-root-spec =
-    tie.close (tie.spec guess-requires mul-square add-if3 returns root-digits-requires returns-2)
+    tie.close (tie.spec guess-requires up-requires mul-square add-if3 returns root-digits-requires returns-2)
