@@ -50,7 +50,7 @@ uint32_t dequant_expand(const uint16_t *rows, size_t rows_length, const int32_t 
                         float *straight, size_t straight_length, float *transposed, size_t transposed_length,
                         uint64_t *reply, size_t reply_length);
 
-/* Says where a matrix stands; always DONE. Values: arena (0 straight, 1 transposed), first place, length; all 0 for bad arguments. */
+/* Says where a matrix stands. DONE: the arena (0 straight, 1 transposed), first place, length. LENT: bad arguments, an order above 2 among them. */
 uint32_t dequant_lookup(const float *straight, size_t straight_length, const float *transposed, size_t transposed_length,
                         size_t kind, size_t channel, uint32_t order, uint64_t *reply, size_t reply_length);
 

@@ -25,13 +25,13 @@ pub lookup-names : (s t : List Float) (k c o : ℕ) → o ≤ 2
     → partOf s t (lookupReply (length s) (length t) k c o) ≡ shown s t k c (orderOf o)
 unfolding lookupReply shown
 lookup-names s t k c o h =
-    ap (λ (x : Bool). partOf s t (cond (x && found k c (length s) (length t)) (partReply k c o) (0 ∷ []))) (le-leb o 2 h)
+    ap (λ (x : Bool). partOf s t (cond (x && found k c (length s) (length t)) (partReply k c o) (1 ∷ []))) (le-leb o 2 h)
     ∙ go (found k c (length s) (length t)) (eqb o 2) (eqb o 1)
   where
     go : (f x y : Bool)
-        → take (getD (cond f (0 ∷ cond x 1 0 ∷ (startOf k + c * areaOf k) ∷ areaOf k ∷ []) (0 ∷ [])) 3 0)
-        (drop (getD (cond f (0 ∷ cond x 1 0 ∷ (startOf k + c * areaOf k) ∷ areaOf k ∷ []) (0 ∷ [])) 2 0)
-        (cond (eqb (getD (cond f (0 ∷ cond x 1 0 ∷ (startOf k + c * areaOf k) ∷ areaOf k ∷ []) (0 ∷ [])) 1 0) 1) t s))
+        → take (getD (cond f (0 ∷ cond x 1 0 ∷ (startOf k + c * areaOf k) ∷ areaOf k ∷ []) (1 ∷ [])) 3 0)
+        (drop (getD (cond f (0 ∷ cond x 1 0 ∷ (startOf k + c * areaOf k) ∷ areaOf k ∷ []) (1 ∷ [])) 2 0)
+        (cond (eqb (getD (cond f (0 ∷ cond x 1 0 ∷ (startOf k + c * areaOf k) ∷ areaOf k ∷ []) (1 ∷ [])) 1 0) 1) t s))
         ≡ cond f (channelPart k c (named (cond x Transposed (cond y Straight Unnamed)) s t)) []
     go true true y = refl
     go true false true = refl

@@ -14,20 +14,20 @@ use Rattle.dequant.specs.declared.jpeg.Jpeg.{Jpeg}
 use Rattle.capi.specs.Parts.{arenaNo, partReply, lookupReply, jpegReply}
 
 module _ (s t k c o : ℕ) where
-  pub unknown-order : 2 < o → 0 ∷ [] ≡ lookupReply s t k c o
+  pub unknown-order : 2 < o → 1 ∷ [] ≡ lookupReply s t k c o
   unfolding lookupReply
   unknown-order h =
-      sym (ap (λ (b : Bool). cond (b && found k c s t) (partReply k c o) (0 ∷ [])) (lt-leb o 2 h))
+      sym (ap (λ (b : Bool). cond (b && found k c s t) (partReply k c o) (1 ∷ [])) (lt-leb o 2 h))
 
   -- what a known order gives, by whether the part is there
   known : o ≤ 2 → (b : Bool) → found k c s t ≡ b
-      → cond b (partReply k c o) (0 ∷ []) ≡ lookupReply s t k c o
+      → cond b (partReply k c o) (1 ∷ []) ≡ lookupReply s t k c o
   unfolding lookupReply
   known h b e =
-      sym (ap (λ (x : Bool). cond (true && x) (partReply k c o) (0 ∷ [])) e)
-      ∙ sym (ap (λ (x : Bool). cond (x && found k c s t) (partReply k c o) (0 ∷ [])) (le-leb o 2 h))
+      sym (ap (λ (x : Bool). cond (true && x) (partReply k c o) (1 ∷ [])) e)
+      ∙ sym (ap (λ (x : Bool). cond (x && found k c s t) (partReply k c o) (1 ∷ [])) (le-leb o 2 h))
 
-  pub not-there : o ≤ 2 → found k c s t ≡ false → 0 ∷ [] ≡ lookupReply s t k c o
+  pub not-there : o ≤ 2 → found k c s t ≡ false → 1 ∷ [] ≡ lookupReply s t k c o
   not-there h e = known h false e
 
   there : o ≤ 2 → found k c s t ≡ true → partReply k c o ≡ lookupReply s t k c o

@@ -23,9 +23,9 @@ arenaNo o = cond (eqb o 2) 1 0
 abbrev pub partReply : ℕ → ℕ → ℕ → List ℕ
 partReply k c o = 0 ∷ arenaNo o ∷ (startOf k + c * areaOf k) ∷ areaOf k ∷ []
 
--- lookup in arenas of lengths s and t: DONE with the part, or with all 0 for bad arguments, an unknown order among them
+-- lookup in arenas of lengths s and t: DONE with the part; LENT for bad arguments, an unknown order among them
 unfoldable pub lookupReply : ℕ → ℕ → ℕ → ℕ → ℕ → List ℕ
-lookupReply s t k c o = cond (leb o 2 && found k c s t) (partReply k c o) (0 ∷ [])
+lookupReply s t k c o = cond (leb o 2 && found k c s t) (partReply k c o) (1 ∷ [])
 
 -- JPEG values that begin at a place of the samples: DONE with that place, and 64
 abbrev pub jpegReply : ℕ → Jpeg → List ℕ

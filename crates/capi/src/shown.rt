@@ -23,10 +23,10 @@ fn said_part(s: usize, t: usize, kind: usize, channel: usize, order: u32) -> Sai
     ensures { λ r. ⌜ r ≡ saidOf (lookupReply s t kind channel order) ⌝ }
 {
     if order > 2 {
-        return made(0, 0, 0, 0);
+        return made(1, 0, 0, 0);
     }
     if !dequant::names(kind, channel, s, t) {
-        return made(0, 0, 0, 0);
+        return made(1, 0, 0, 0);
     }
     let k = Kind { no: kind };
     let area = k.area();
