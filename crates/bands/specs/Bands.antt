@@ -11,6 +11,7 @@ use lib.Ieee.{Float, nan, inf, fin, binary32, add, sub, mul, div, lt, le}
 abbrev pub nought : Float
 nought = fin false 0 (pos 0)
 
+-- 1 as an f32
 abbrev pub one : Float
 one = fin false 1 (pos 0)
 

@@ -11,7 +11,7 @@ use Rattle.dequant.specs.declared.jpeg.Jpeg.the-variants.{Done, Lent, Row, None
 use Rattle.dequant.specs.declared.shown.Order.{Order}
 use Rattle.dequant.specs.declared.shown.Order.the-variants.{Unnamed, Straight, Transposed}
 
--- an order by its number: 0 none named, 1 straight, 2 transposed
+-- an order by its number: 0 none named, 1 straight, 2 transposed; no other number names one, and lookup refuses it
 abbrev pub orderOf : ℕ → Order
 orderOf o = cond (eqb o 2) Transposed (cond (eqb o 1) Straight Unnamed)
 

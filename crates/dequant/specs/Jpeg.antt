@@ -19,7 +19,7 @@ jpegNumbers Lent = 1 ∷ []
 jpegNumbers (Row kind) = 6 ∷ kind ∷ []
 jpegNumbers None = 11 ∷ []
 
--- the number rounds to n, half away from zero: it is not negative, and the whole part of its value m 2^e plus a half is n
+-- a number of at least 0 rounds to n, half away from zero: the whole part of its value m 2^e plus a half is n
 unfoldable pub roundsTo : Float → ℕ → Bool
 roundsTo nan n = false
 roundsTo (inf s) n = false
@@ -48,5 +48,6 @@ givenBy Lent part = []
 givenBy (Row kind) part = []
 givenBy None part = []
 
+-- the part of the samples that the call gives: 64 from the channel's start, none with a refusal
 unfoldable pub jpegValues : List ℕ → List ℤ → ℕ → List ℤ
 jpegValues rows zs c = givenBy (jpegAnswer rows (length zs) c) (take 64 (drop (c * 64) zs))

@@ -23,6 +23,7 @@ part k l = take (placesOf k) (drop (startOf k) l)
 abbrev pub straightOf : List ℕ → List ℤ → ℕ → List Float
 straightOf rows zs k = weightsOf (rowAt rows k) (part k zs) k
 
+-- and transposed
 abbrev pub transposedOf : List ℕ → List ℤ → ℕ → List Float
 transposedOf rows zs k = mirror k (straightOf rows zs k)
 
@@ -35,6 +36,7 @@ arenaOf w (suc n) = arenaOf w n ++ w n
 abbrev pub straightArena : List ℕ → List ℤ → List Float
 straightArena rows zs = arenaOf (straightOf rows zs) 17
 
+-- and transposed
 abbrev pub transposedArena : List ℕ → List ℤ → List Float
 transposedArena rows zs = arenaOf (transposedOf rows zs) 17
 

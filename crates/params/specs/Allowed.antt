@@ -15,6 +15,7 @@ abbrev pub allFine : List ℕ → Bool
 allFine [] = true
 allFine (v ∷ vs) = not (barred v) && allFine vs
 
+-- all of them 0
 abbrev pub allZero : List ℕ → Bool
 allZero [] = true
 allZero (v ∷ vs) = eqb v 0 && allZero vs
@@ -47,10 +48,11 @@ rowAllowed kind row = ltb kind 17 && (entryRow kind row || (eqb kind 0 && flagRo
 
 -- ---- a set of 17 rows
 
--- a kind's row of the 2,176 numbers, and its mode
+-- a kind's row of the 2,176 numbers
 abbrev pub rowAt : List ℕ → ℕ → List ℕ
 rowAt rows kind = take 128 (drop (kind * 128) rows)
 
+-- a kind's mode: slot 0 of its row
 abbrev pub modeAt : List ℕ → ℕ → ℕ
 modeAt rows kind = getD rows (kind * 128) 0
 

@@ -26,6 +26,7 @@ pub record Outcome : Type 0 where
   pub answer : Reading
   pub rows : List ℕ
 
+-- an answer with these rows
 abbrev pub gives : Reading → List ℕ → Outcome
 gives r rows = record { answer = r; rows = rows }
 
@@ -68,6 +69,7 @@ abbrev pub startIs : List ℕ → ℕ → ℕ → List ℕ → Outcome
 startIs b p zero rows = flagIs b p rows (readBits b p 1)
 startIs b p (suc k) rows = kinds b (17 - suc k) (suc k) (gives (Done p) rows)
 
+-- reading from a bit at a kind into rows: LENT for another kind or length
 unfoldable pub readHeader : List ℕ → ℕ → ℕ → List ℕ → Outcome
 unfolding kinds
 readHeader b p kind rows = cond (leb kind 16 && eqb (length rows) 2176) (startIs b p kind rows) (gives Lent rows)

@@ -19,6 +19,7 @@ abbrev pub numberIs : ℕ → ℕ → List ℕ → Bits → Hand
 numberIs p s row Short = short p
 numberIs p s row (Value v q) = cond (barred v) (float p) (on q (s + 1) (set row s v))
 
+-- a refusal before it stays
 unfoldable pub number : List ℕ → Hand → Hand
 number b (on p s row) = numberIs p s row (readBits b p 16)
 number b (short p) = short p
@@ -36,6 +37,7 @@ abbrev pub listIs : List ℕ → ℕ → ℕ → ℕ → List ℕ → Bits → H
 listIs b i p s row Short = short p
 listIs b i p s row (Value v q) = numbers b (3 * (v + 1)) (on q s (set row i (v + 1)))
 
+-- a refusal before it stays
 unfoldable pub bandList : List ℕ → ℕ → Hand → Hand
 bandList b i (on p s row) = listIs b i p s row (readBits b p 4)
 bandList b i (short p) = short p
@@ -48,14 +50,15 @@ unfolding bandList
 bandLists b zero i h = h
 bandLists b (suc n) i h = bandLists b n (i + 1) (bandList b i h)
 
--- by mode: how many numbers come first, and how many band lists after them
+-- by mode: how many numbers come first
 abbrev pub fixed : ℕ → ℕ
 fixed m = getD (0 ∷ 3 * 3 ∷ 3 * 6 ∷ 3 * 2 ∷ 3 * 1 ∷ 3 * 9 ∷ 0 ∷ 1 ∷ []) m 0
 
+-- and how many band lists after them
 abbrev pub lists : ℕ → ℕ
 lists m = getD (0 ∷ 0 ∷ 0 ∷ 1 ∷ 1 ∷ 2 ∷ 1 ∷ 0 ∷ []) m 0
 
--- modes 1 to 5 only for kinds 0, 1, 2, 3, 9, 10
+-- modes 1 to 5 only for kinds 0, 1, 2, 3, 9, 10; asked for kinds to 16 and modes to 7
 abbrev pub allowed : ℕ → ℕ → Bool
 allowed kind m = not (leb 1 m && leb m 5) || (leb kind 3 || (eqb kind 9 || eqb kind 10))
 
@@ -65,6 +68,7 @@ entryIs b kind p Short = short p
 entryIs b kind p (Value m q) =
     cond (allowed kind m) (bandLists b (lists m) 1 (numbers b (fixed m) (on q 3 (set (replicate 128 0) 0 m)))) (mode p)
 
+-- a kind's entry from bit p on: mode, numbers, band lists
 unfoldable pub entry : List ℕ → ℕ → ℕ → Hand
 unfolding numbers bandLists
 entry b kind p = entryIs b kind p (readBits b p 3)

@@ -23,6 +23,7 @@ abbrev pub shift : {A : Type 0} → ℕ → Answer A → Answer A
 shift at (got a n) = got a (at + n)
 shift at (bad n) = bad (at + n)
 
+-- a format read from position `at` on
 unfoldable pub readAt : {A : Type 0} → Format A → List ℕ → ℕ → Answer A
 readAt F s at = shift at (F .read (drop at s))
 
@@ -31,6 +32,7 @@ abbrev pub num : Answer ℕ → Num
 num (got v n) = Got v n
 num (bad n) = Bad n
 
+-- the same of a sample
 abbrev pub sampleOf : Answer ℤ → sample.Sample
 sampleOf (got v n) = samples.Got v n
 sampleOf (bad n) = samples.Bad n
@@ -50,9 +52,11 @@ pub record Fresh (row : List ℕ) : Type 0 where
 abbrev pub PartsStored : ℕ → List ℕ → List ℕ → List ℤ → List ℤ → List ℕ × (List ℕ × List ℤ) → Type 0
 PartsStored kind row row' arena arena' p = (row' ≡ sets (sets row 1 (p .0)) 3 (p .1 .0)) × (arena' ≡ sets arena (startOf kind) (p .1 .1))
 
+-- the same of an entry: its mode goes to slot 0
 abbrev pub EntryStored : ℕ → List ℕ → List ℕ → List ℤ → List ℤ → Entry → Type 0
 EntryStored kind row row' arena arena' e = PartsStored kind (set row 0 (e .0)) row' arena arena' (e .1)
 
+-- the same of a kind's row among all
 abbrev pub RowStored : ℕ → List ℕ → List ℕ → List ℤ → List ℤ → Row → Type 0
 RowStored kind rows rows' arena arena' r = (rows' ≡ sets rows (kind * 128) (r .0)) × (arena' ≡ sets arena (startOf kind) (r .1))
 
@@ -60,5 +64,6 @@ RowStored kind rows rows' arena arena' r = (rows' ≡ sets rows (kind * 128) (r 
 abbrev pub SetStored : List ℕ → List ℕ → List ℤ → List ℤ → List Row → Type 0
 SetStored rows rows' arena arena' rs = (rows' ≡ sets rows 0 (joinRows rs)) × (arena' ≡ storeParts 0 (samplesOf rs) arena)
 
+-- the same of a whole record
 abbrev pub FlatStored : List ℕ → List ℤ → List ℤ → Flat → Type 0
 FlatStored rows' arena arena' f = (rows' ≡ f .0) × (arena' ≡ storeParts 0 (f .1) arena)

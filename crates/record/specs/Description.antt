@@ -12,10 +12,11 @@ use Rattle.params.specs.Allowed.{modeAt, rowFault}
 use Rattle.record.specs.Format.{Format, pick}
 use Rattle.record.specs.Flat.{Flat, flatFormat}
 
--- whether a kind is raw, by slot 0 of its row; whether some kind is
+-- whether a kind is raw, by slot 0 of its row
 abbrev pub isRaw : List ℕ → ℕ → Bool
 isRaw rows kind = eqb (modeAt rows kind) 7
 
+-- whether some kind is raw
 unfoldable pub anyRaw : List ℕ → Bool
 anyRaw rows = ltb (before (λ kind. not (isRaw rows kind)) 17) 17
 

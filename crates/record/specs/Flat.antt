@@ -15,6 +15,7 @@ abbrev pub joinRows : List Row → List ℕ
 joinRows [] = []
 joinRows (r ∷ rs) = r .0 ++ joinRows rs
 
+-- the samples of the rows, a list for each
 abbrev pub samplesOf : List Row → List (List ℤ)
 samplesOf [] = []
 samplesOf (r ∷ rs) = r .1 ∷ samplesOf rs
@@ -24,9 +25,11 @@ abbrev pub cutRows : List ℕ → List (List ℤ) → List Row
 cutRows l [] = []
 cutRows l (v ∷ vs) = (take 128 l, v) ∷ cutRows (drop 128 l) vs
 
+-- rows and flag as one list of 2,176 numbers, with zeros where there are no rows
 abbrev pub flatOf : Rows → Flat
 flatOf p = (set (joinRows (p .1) ++ replicate (2176 - length (joinRows (p .1))) 0) 126 (p .0), samplesOf (p .1))
 
+-- and back
 abbrev pub rowsOf : Flat → Rows
 rowsOf f = (getD (f .0) 126 0, cutRows (f .0) (f .1))
 

@@ -11,21 +11,25 @@ use Rattle.record.specs.Text.{bytes}
 use Rattle.record.specs.declared.piece.Step.{Step}
 use Rattle.record.specs.declared.piece.Step.the-variants.{Ended as ended, Stuck as stuck, On as on}
 
--- the digits of n, none for 0; the first argument bounds how many
+-- the decimal digits of n, none for 0; the first argument bounds how many
 abbrev pub digitsIn : ℕ → ℕ → List ℕ
 digitsIn zero n = []
 digitsIn (suc f) n = elim (eqb n 0) [ true ↦ [] | false ↦ digitsIn f (n / 10) ++ ((48 + n % 10) ∷ []) ]
 
+-- the same, as many as there are
 unfoldable pub digits : ℕ → List ℕ
 digits n = digitsIn n n
 
+-- both of two tests
 abbrev pub both : Bool → Bool → Bool
 both true b = b
 both false b = false
 
+-- the bytes 0 to 9
 abbrev pub isDigit : ℕ → Bool
 isDigit b = both (leb 48 b) (ltb b 58)
 
+-- from 1 to limit
 abbrev pub within : ℕ → ℕ → Bool
 within limit m = both (ltb 0 m) (leb m limit)
 
@@ -35,6 +39,7 @@ next limit end m b =
     pick (both (ltb 0 m) (eqb b end)) ended
     (pick (both (isDigit b) (within limit (m * 10 + (b - 48)))) (on (m * 10 + (b - 48))) stuck)
 
+-- a number from m so far, after n bytes
 abbrev pub numberFrom : (limit end m n : ℕ) → List ℕ → Answer ℕ
 numberFrom limit end m n [] = bad n
 numberFrom limit end m n (b ∷ s) = elim (next limit end m b) [ ended ↦ got m (n + 1) | stuck ↦ bad n | on k ↦ numberFrom limit end k (n + 1) s ]
@@ -52,18 +57,23 @@ abbrev pub isZero : ℤ → Bool
 isZero (pos n) = eqb n 0
 isZero (negsuc n) = false
 
+-- below 0
 abbrev pub isMinus : ℤ → Bool
 isMinus (pos n) = false
 isMinus (negsuc n) = true
 
+-- 0
 abbrev pub nought : ℕ → Format ℤ
 nought end = via (λ u. pos 0) (λ z. tt) (lit (48 ∷ end ∷ []))
 
+-- below 0: a minus sign and the size
 abbrev pub minus : ℕ → Format ℤ
 minus end = after (bytes "-") (via (λ m. negℤ (pos m)) natAbs (number 2147483648 end))
 
+-- above 0
 abbrev pub plus : ℕ → Format ℤ
 plus end = via pos natAbs (number 2147483647 end)
 
+-- one of the three, told by the first byte
 abbrev pub signed : ℕ → Format ℤ
 signed end = choose (λ b. eqb b 48) isZero (nought end) (choose (λ b. eqb b 45) isMinus (minus end) (plus end))

@@ -47,20 +47,23 @@ Entry = ℕ × (List ℕ × (List ℕ × List ℤ))
 abbrev pub modeOk : ℕ → ℕ → Bool
 modeOk k m = both (ltb m 8) (allowed k m)
 
--- how many numbers mode m has with its band counts, and how many samples
+-- how many numbers mode m has with its band counts
 abbrev pub numberCount : ℕ → List ℕ → ℕ
 numberCount m c = fixed m + 3 * getD c 0 0 + 3 * getD c 1 0
 
+-- how many samples kind k has in mode m
 abbrev pub sampleCount : ℕ → ℕ → ℕ
 sampleCount k m = pick (eqb m 7) (placesOf k) 0
 
--- a kind's number of one or two digits, the line that it stands in, and what follows its mode
+-- a kind's number, 0 to 16, of one or two digits
 abbrev pub kindName : ℕ → List ℕ
 kindName k = pick (ltb k 10) ((48 + k) ∷ []) (49 ∷ (38 + k) ∷ [])
 
+-- the bytes up to its mode
 abbrev pub heading : ℕ → List ℕ
 heading k = bytes "kind=" ++ (kindName k ++ bytes "\nmode=")
 
+-- the bytes behind its mode: one order where the matrix is square, and else two
 abbrev pub orders : ℕ → List ℕ
 orders k = pick (eqb (widthOf k) (heightOf k)) (bytes "\norders=one\n") (bytes "\norders=two\n")
 
@@ -75,5 +78,6 @@ parts k m =
     ▷ λ c. line (bytes "numbers=") 0 half (numberCount m c)
     ▷ λ n. line (bytes "samples=") (pos 0) signed (sampleCount k m)
 
+-- all lines of a kind
 unfoldable pub entry : ℕ → Format Entry
 entry k = modeLines k ▷ parts k

@@ -17,6 +17,7 @@ Row = List ℕ × List ℤ
 abbrev pub slots : Entry → List ℕ
 slots e = e .0 ∷ getD (e .1 .0) 0 0 ∷ getD (e .1 .0) 1 0 ∷ e .1 .1 .0
 
+-- the row of 128, and the samples
 abbrev pub rowOf : Entry → Row
 rowOf e = (slots e ++ replicate (128 - length (slots e)) 0, e .1 .1 .1)
 
@@ -24,14 +25,16 @@ rowOf e = (slots e ++ replicate (128 - length (slots e)) 0, e .1 .1 .1)
 abbrev pub countsOf : List ℕ → List ℕ
 countsOf r = take (lists (getD r 0 0)) (getD r 1 0 ∷ getD r 2 0 ∷ [])
 
+-- an entry from its row and samples
 abbrev pub entryOf : Row → Entry
 entryOf p = (getD (p .0) 0 0, (countsOf (p .0), (take (numberCount (getD (p .0) 0 0) (countsOf (p .0))) (drop 3 (p .0)), p .1)))
 
--- a kind's lines as its row and samples; those of n kinds from k on
+-- a kind's lines as its row and samples
 unfoldable pub rowFormat : ℕ → Format Row
 unfolding entry
 rowFormat k = via rowOf entryOf (entry k)
 
+-- those of n kinds from k on
 abbrev pub rowFormats : ℕ → ℕ → List (Format Row)
 rowFormats k zero = []
 rowFormats k (suc n) = rowFormat k ∷ rowFormats (k + 1) n
@@ -45,10 +48,12 @@ allKinds = seqs ([], []) (rowFormats 0 17)
 abbrev pub Rows : Type 0
 Rows = ℕ × List Row
 
+-- the lines behind the first: none where all is default
 unfoldable pub kindLines : ℕ → Format (List Row)
 unfolding allKinds
 kindLines d = pick (eqb d 1) (nothing []) allKinds
 
+-- the first line, then those of the kinds
 unfoldable pub rowsFormat : Format Rows
 unfolding kindLines
 rowsFormat = header ▷ kindLines

@@ -23,6 +23,7 @@ pub record Stored (t o o' : List ℕ) (at r m : ℕ) : Type 0 where
 abbrev pub Items : {A : Type 0} → A → (ℕ → Format A) → List A → List ℕ → List ℕ → ℕ → ℕ → Type 0
 Items d F src o o' at r = Stored (seqs d (items F (length src)) .write src) o o' at r (4294967296 * length src)
 
+-- a line with its name
 abbrev pub Line : {A : Type 0} → List ℕ → A → (ℕ → Format A) → List A → List ℕ → List ℕ → ℕ → ℕ → Type 0
 Line name d F src o o' at r = Stored (line name d F (length src) .write src) o o' at r (8 + 4294967296 * length src)
 
