@@ -13,7 +13,7 @@ import sys
 ROOT = pathlib.Path(__file__).resolve().parent.parent
 FN = re.compile(r"# fn (\S+): (.+)")
 NOT_OWN = "was not admitted"
-SHAPE = "can be named from here"
+SHAPE = ("can be named from here", "has no field")
 
 
 def told(edit):
@@ -32,7 +32,7 @@ def fault(log, path):
         return None
     place = re.compile("/proofs/" + "/".join(inner[:-1] + [r"\+?" + inner[-1]]) + r"(\+\w+)*/Proof\.antt:\d+:\d+: error: ")
     own = [line for line in log if place.search(line) and NOT_OWN not in line]
-    if any(SHAPE in line for line in own):
+    if any(words in line for line in own for words in SHAPE):
         return "its shape changed"
     return None if own else f"no error of its own ({verdict[:80]})"
 
