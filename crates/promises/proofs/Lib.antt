@@ -1,0 +1,2 @@
+-- Theorems over all crates, on the definitions that their contracts cite.
+pub mod Coincide
