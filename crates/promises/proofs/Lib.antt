@@ -1,2 +1,4 @@
 -- Theorems over all crates, on the definitions that their contracts cite.
 pub mod Coincide
+pub mod RowNumbers
+pub mod RowRatios
