@@ -2,3 +2,5 @@
 pub mod Coincide
 pub mod RowNumbers
 pub mod RowRatios
+pub mod Accepts
+pub mod RawOnes
