@@ -1,0 +1,100 @@
+-- When a kind, and when a set, is accepted: no band and no weight of it is refused. Assumes nothing.
+use mathlib.Core.Path.{_≡_, refl, sym, ap, _∙_, subst}
+use mathlib.Core.Logic.{_⊎_, inl, inr}
+use mathlib.Core.Bool.{Bool, true, false, cond, not, _&&_, _||_}
+use mathlib.Core.List.{List, [], _∷_, map}
+use Prim.Native.Nat.{ℕ, zero, suc, _+_, _*_, _/_, _%_, _≤_, _<_}
+use native.Mathlib.Nat.{le-of-eq, le-of-suc-le-suc, not-suc-le-zero, zero-lt-suc, lt-of-lt-of-le, le-suc, lt-suc-self}
+use native.Mathlib.Omega.{arith}
+use borrow.Author.Tests.{le-ltb, eq-eqb}
+use lib.Dec.{ltb, eqb}
+use lib.IntN.{ℤ, pos}
+use lib.ListN.{length, getD, length-map, List·getD-map}
+use lib.Ieee.{Float, nan}
+use Rattle.transform.specs.First.{before}
+use Rattle.transform.specs.Kinds.{areaOf, placesOf}
+use Rattle.bitstream.specs.Half.{half}
+use Rattle.params.specs.Allowed.{rowAt, modeAt, rowAllowed, flagFault, rowFault}
+use Rattle.bands.proofs.TableLaws.{length-tab, getD-tab}
+use Rattle.matrix.specs.declared.Expanded.{Expanded}
+use Rattle.matrix.specs.declared.Expanded.the-variants.{Done, Weight}
+use Rattle.matrix.specs.Mirror.{passed}
+use Rattle.matrix.specs.Raw.{weightOf, refused}
+use Rattle.matrix.specs.Numbers.{numbersOf}
+use Rattle.matrix.specs.Weight.{weightAt, weightsOf}
+use Rattle.matrix.specs.Expanded.{orElse, bandAnswer, weightAnswer, kindAnswer, expandAnswer, samplesRight}
+use Rattle.matrix.proofs.Lending.{all-samples, by-samples}
+use Rattle.matrix.proofs.Places.{weights-length}
+use Rattle.matrix.proofs.RowFacts.{facts}
+use Rattle.matrix.proofs.Said.{says-kind, raw-answer, raw-meaning}
+use Rattle.dequant.specs.Set.{part, kindsAnswer, setLent, expandSet}
+use Rattle.dequant.proofs.Lent.{says-kinds}
+
+-- ---- weights
+-- where no weight is refused, all pass
+pub passed-all : (ws : List Float) → ((i : ℕ) → i < length ws → refused (getD ws i nan) ≡ false) → passed ws ≡ length ws
+unfolding passed
+passed-all [] f = refl
+passed-all (w ∷ ws) f = ap (λ (b : Bool). cond b 0 (suc (passed ws))) (f 0 (zero-lt-suc (length ws))) ∙ ap suc (passed-all ws (λ i h. f (suc i) (native.Mathlib.Nat.suc-le-suc-iff .1 h)))
+
+weights-done : (k : ℕ) (ws : List Float) → ((i : ℕ) → i < length ws → refused (getD ws i nan) ≡ false) → weightAnswer k ws ≡ Done
+unfolding weightAnswer
+weights-done k ws f = ap (λ (b : Bool). cond b (Weight k (passed ws / areaOf k) (passed ws % areaOf k)) Done) (le-ltb (passed ws) (length ws) (le-of-eq (sym (passed-all ws f))))
+
+-- a kind whose bands and weights are not refused is accepted
+pub kind-accepts : (k : ℕ) (row : List ℕ) (zs : List ℤ) → bandAnswer (numbersOf row k) k 3 ≡ Done → ((p : ℕ) → p < placesOf k → refused (weightAt row zs k (p / areaOf k) (p % areaOf k)) ≡ false)
+    → kindAnswer row zs k ≡ Done
+unfolding kindAnswer weightsOf
+kind-accepts k row zs b f =
+    ap (λ (a : Expanded). orElse a (weightAnswer k (weightsOf row zs k))) b
+    ∙ weights-done k (weightsOf row zs k) (λ i h. let g : i < placesOf k = lt-of-lt-of-le h (le-of-eq (weights-length row zs k)) in ap refused (getD-tab (placesOf k) (λ p. weightAt row zs k (p / areaOf k) (p % areaOf k)) i nan g) ∙ f i g)
+
+-- a raw kind is accepted where no sample times the denominator is refused; for a row that passes ROW and samples of the kind's number
+pub raw-accepts : (k : ℕ) (row : List ℕ) (zs : List ℤ) → rowAllowed k row ≡ true → getD row 0 0 ≡ 7 → length zs ≡ placesOf k
+    → ((i : ℕ) → i < placesOf k → refused (weightOf (half (getD row 3 0)) (getD zs i (pos 0))) ≡ false) → kindAnswer row zs k ≡ Done
+raw-accepts k row zs ok m l f =
+    sym (raw-answer k row zs (facts k row ok) m)
+    ∙ ap (weightAnswer k) (sym (raw-meaning row zs k m l))
+    ∙ weights-done k (map (weightOf (half (getD row 3 0))) zs) fine
+  where
+    fine : (i : ℕ) → i < length (map (weightOf (half (getD row 3 0))) zs) → refused (getD (map (weightOf (half (getD row 3 0))) zs) i nan) ≡ false
+    fine i h =
+        let g : i < length zs = lt-of-lt-of-le h (le-of-eq (length-map zs (weightOf (half (getD row 3 0))))) in
+        ap refused (other (map (weightOf (half (getD row 3 0))) zs) i nan (weightOf (half (getD row 3 0)) (pos 0)) h ∙ List·getD-map (weightOf (half (getD row 3 0))) zs i (pos 0))
+        ∙ f i (lt-of-lt-of-le g (le-of-eq l))
+      where
+        other : {A : Type 0} (l : List A) (i : ℕ) (d e : A) → i < length l → getD l i d ≡ getD l i e
+        other [] i d e h = absurd (not-suc-le-zero h)
+        other (x ∷ l) zero d e h = refl
+        other (x ∷ l) (suc i) d e h = other l i d e (le-of-suc-le-suc h)
+
+-- ---- one kind by itself, lent its row, all its samples and two outputs of its places
+pub alone : (k : ℕ) (row : List ℕ) (zs : List ℤ) → k < 17 → length row ≡ 128 → length zs ≡ placesOf k → rowAllowed k row ≡ true → expandAnswer k row zs (placesOf k) (placesOf k) ≡ kindAnswer row zs k
+alone k row zs h l m ok =
+    sym (says-kind k row zs (placesOf k) (placesOf k) (sym (by-samples k row (length zs) (placesOf k) (placesOf k) (placesOf k) refl true (le-of-suc-le-suc h) l refl refl (all-samples (length zs) (placesOf k) (getD row 0 0) m))) ok)
+
+-- ---- a set
+-- where all of 0, .., n - 1 pass, none fails
+before-every : (ok : ℕ → Bool) (n : ℕ) → ((k : ℕ) → k < n → ok k ≡ true) → before ok n ≡ n
+unfolding before
+before-every ok zero f = refl
+before-every ok (suc n) f =
+    ap (λ (b : Bool). cond (b && ok n) (suc n) (before ok n)) (eq-eqb (before ok n) n (before-every ok n (λ k h. f k (lt-of-lt-of-le h (le-suc n)))))
+    ∙ ap (λ (b : Bool). cond b (suc n) (before ok n)) (f n (lt-suc-self n))
+
+kinds-done : (rows : List ℕ) (zs : List ℤ) (n : ℕ) → ((k : ℕ) → k < n → kindAnswer (rowAt rows k) (part k zs) k ≡ Done) → kindsAnswer rows zs n ≡ Done
+unfolding kindsAnswer
+kinds-done rows zs zero f = refl
+kinds-done rows zs (suc n) f =
+    ap (λ (a : Expanded). orElse a (kindAnswer (rowAt rows n) (part n zs) n)) (kinds-done rows zs n (λ k h. f k (lt-of-lt-of-le h (le-suc n))))
+    ∙ f n (lt-suc-self n)
+
+rows-right : (rows : List ℕ) → flagFault rows ≡ false → ((k : ℕ) → k < 17 → rowAllowed k (rowAt rows k) ≡ true) → 17 ≤ rowFault rows
+unfolding rowFault
+rows-right rows e f =
+    le-of-eq (sym (ap (λ (b : Bool). cond b 0 (before (λ kind. rowAllowed kind (rowAt rows kind)) 17)) e ∙ before-every (λ kind. rowAllowed kind (rowAt rows kind)) 17 f))
+
+-- a set that is lent right, whose rows pass ROW and each of whose kinds is accepted, is accepted
+pub set-accepts : (rows : List ℕ) (zs : List ℤ) (s t : ℕ) → setLent rows (length zs) s t ≡ true → flagFault rows ≡ false → ((k : ℕ) → k < 17 → rowAllowed k (rowAt rows k) ≡ true)
+    → ((k : ℕ) → k < 17 → kindAnswer (rowAt rows k) (part k zs) k ≡ Done) → expandSet rows zs s t ≡ Done
+set-accepts rows zs s t lent flag ok f = sym (says-kinds rows zs s t lent (rows-right rows flag ok)) ∙ kinds-done rows zs 17 f

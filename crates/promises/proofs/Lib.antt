@@ -1,0 +1,6 @@
+-- Theorems over all crates, on the definitions that their contracts cite.
+pub mod Coincide
+pub mod RowNumbers
+pub mod RowRatios
+pub mod Accepts
+pub mod RawOnes
