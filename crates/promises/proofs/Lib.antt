@@ -4,3 +4,11 @@ pub mod RowNumbers
 pub mod RowRatios
 pub mod Accepts
 pub mod RawOnes
+pub mod KindLaws
+pub mod Longest
+pub mod LongestReached
+pub mod ReadWritten
+pub mod Readable
+pub mod RowRule
+pub mod RowTheorem
+pub mod Shape

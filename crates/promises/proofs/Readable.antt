@@ -8,9 +8,9 @@ use Rattle.bitstream.specs.Bits.{readBits, field}
 use Rattle.bitstream.specs.declared.Bits.the-variants.{Value}
 use Rattle.bitstream.proofs.Laws.{read-in, value-lt, value-width}
 use Rattle.bitstream.proofs.Bytes.{bytesOf, length-bytesOf, field-at}
 use Rattle.params.specs.Row.{on, entry}
 use Rattle.params.proofs.Written.{Field, span, Spells, Sized, Written}
-use Rattle.params.proofs.ReadWritten.{Read, entry-read}
+use Rattle.promises.proofs.ReadWritten.{Read, entry-read}
 
 -- the fields as one number, the first the lowest
 abbrev pub numberOf : List Field → ℕ

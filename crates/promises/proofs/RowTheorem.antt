@@ -14,20 +14,20 @@ use Rattle.bitstream.specs.Bits.{readBits, field}
 use Rattle.bitstream.specs.declared.Bits.{Bits}
 use Rattle.bitstream.specs.declared.Bits.the-variants as bits
 use Rattle.bitstream.proofs.Bytes.{bytesOf, bytesOf-bytes}
 use Rattle.params.specs.declared.read.Reading.{Reading}
 use Rattle.params.specs.declared.read.Reading.the-variants.{Done, Lent, Short, Mode, Float, Raw}
 use Rattle.params.specs.Row.{Hand, on, short, mode, float, entry}
 use Rattle.params.specs.Header.{Outcome, gives, allDefault, kindIs, kinds, readHeader}
 use Rattle.params.specs.Allowed.{allZero, entryRow, flagRow, rowAllowed, rowAt}
 use Rattle.params.proofs.Written.{Field, span, Spells, Sized}
 use Rattle.params.proofs.Written as written
 use Rattle.params.proofs.SetLaws.{kinds-step, kinds-stays, header-resume, header-short, header-default, header-all}
-use Rattle.params.proofs.ReadWritten.{entry-spelt}
-use Rattle.params.proofs.Readable.{numberOf, spelt}
-use Rattle.params.proofs.RowRule.{Small, ok-fields, entry-ok}
+use Rattle.promises.proofs.ReadWritten.{entry-spelt}
+use Rattle.promises.proofs.Readable.{numberOf, spelt}
+use Rattle.promises.proofs.RowRule.{Small, ok-fields, entry-ok}
 use Rattle.params.proofs.AllowedLaws.{and-true, and-both, zeros-of}
 use Rattle.params.proofs.FaultLaws.{allowed-entry, allowed-flag}
-use Rattle.params.proofs.KindLaws.{row-read}
+use Rattle.promises.proofs.KindLaws.{row-read}
 
 -- Some bytes, read at some bit from this kind on, write this row, whatever the 2,176 numbers were before.
 pub record Writes (kind : ℕ) (row : List ℕ) : Type 0 where

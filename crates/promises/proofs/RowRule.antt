@@ -6,13 +6,13 @@ use Prim.Native.Nat.{ℕ, zero, suc, _+_, _-_, _*_, _^_, _≤_, _<_}
 use native.Mathlib.Omega.{arith}
 use lib.ListN.{length, replicate, length-append}
 use lib.Dec.{lit≤}
 use Rattle.params.proofs.Written.{Field, bits, span, Sized, numbersOf, rowOf, Bands, Start, Written, plain, one, two}
 use Rattle.params.specs.Allowed.{entryRow}
 use Rattle.params.proofs.RowLaws.{shape-fits}
-use Rattle.params.proofs.Shape.{span-append, span-numbers}
+use Rattle.promises.proofs.Shape.{span-append, span-numbers}
 use Rattle.params.proofs.AllowedLaws.{written-ok, ok-written, ok-long}
 use Rattle.params.specs.Row.{on, entry}
-use Rattle.params.proofs.Readable.{read-written}
+use Rattle.promises.proofs.Readable.{read-written}
 
 -- every element is a 16-bit number, as in a slice of u16
 abbrev pub Small : List ℕ → Type 0

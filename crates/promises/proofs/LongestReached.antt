@@ -8,15 +8,15 @@ use lib.ListN.{length, getD, replicate}
 use lib.Dec.{T, leb, eqb, lit≤}
 use lib.Pow.{areBytes}
 use Rattle.bitstream.proofs.Bytes.{bytesOf, bytesOf-bytes}
 use Rattle.params.specs.declared.read.Reading.the-variants.{Done, Raw}
 use Rattle.params.specs.Row.{Hand, on, allowed, fixed, entry}
 use Rattle.params.specs.Header.{Outcome, gives, putRow, kindIs, after, kinds, readHeader}
 use Rattle.params.proofs.Written.{Field, bits, span, Spells, Sized, numbersOf, Fine, rowOf, Bands, Start, Written, plain, one, two}
-use Rattle.params.proofs.Shape.{spells-left, spells-right, span-append}
+use Rattle.promises.proofs.Shape.{spells-left, spells-right, span-append}
 use Rattle.params.proofs.SetLaws.{header-all}
-use Rattle.params.proofs.ReadWritten.{entry-spelt}
-use Rattle.params.proofs.Readable.{numberOf, spelt}
-use Rattle.params.proofs.RowRule.{Small, sized-numbers, sized-append}
+use Rattle.promises.proofs.ReadWritten.{entry-spelt}
+use Rattle.promises.proofs.Readable.{numberOf, spelt}
+use Rattle.promises.proofs.RowRule.{Small, sized-numbers, sized-append}
 
 -- ---- a header whose entries are all written rows, none raw, is read to its end
 

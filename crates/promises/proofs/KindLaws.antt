@@ -5,13 +5,13 @@ use Prim.Native.Nat.{ℕ, zero, suc, _+_, _-_, _*_, _≤_, _<_}
 use native.Mathlib.Omega.{arith}
 use lib.ListN.{length, getD, take, drop, replicate, length-drop, length-replicate, getD-replicate, take-append-drop}
 use lib.Seq.{paste, length-paste, length-take-le, take-append-le, drop-append-le, take-at, drop-at, take-all, getD-take, getD-drop}
 use Rattle.params.specs.declared.read.Reading.{Reading}
 use Rattle.params.specs.declared.read.Reading.the-variants.{Done, Lent, Short, Mode, Float, Raw}
 use Rattle.params.specs.Row.{Hand, on, short, mode, float, entry}
 use Rattle.params.specs.Header.{Outcome, gives, putRow, kindIs, after, kinds}
 use Rattle.params.specs.Allowed.{rowAt}
 use Rattle.params.proofs.SetLaws.{kinds-step}
-use Rattle.params.proofs.RowRule.{entry-long}
+use Rattle.promises.proofs.RowRule.{entry-long}
 
 -- a row lies in a list's beginning
 row-front : (a b : List ℕ) (k : ℕ) → k * 128 + 128 ≤ length a → rowAt (a ++ b) k ≡ rowAt a k
