@@ -10,7 +10,7 @@ use lib.Seq.{getD-set-same, getD-set-other}
 use lib.Ieee.{Float, nan}
 use Rattle.bands.specs.Table.{tab}
 use Rattle.bands.proofs.TableLaws.{tab-of}
-use Rattle.bands.specs.Views.{putOf, Laid}
+use Rattle.bands.specs.Grids.{putOf, Laid}
 
 pub laid-none : (f : ℕ → ℕ → Float) (area : ℕ) (out : List Float) → length out ≡ 3 * area → Laid f area 0 out
 laid-none f area out e = record { long = e; each = λ k j h g. absurd (not-suc-le-zero g) }

@@ -11,7 +11,7 @@ use lib.Dec.{T, leb, eqb, leb→le}
 use lib.Ieee.Fits.{and-l, and-r}
 use Rattle.transform.specs.Kinds.{widthOf, heightOf}
 use Rattle.transform.proofs.Laws.{below, at}
-use Rattle.bands.specs.Views.{Grid}
+use Rattle.bands.specs.Grids.{Grid}
 use Rattle.bands.specs.Quant.{kindIs, kindHas, gridded, lentRight}
 
 both-true : (a b : Bool) → (a && b) ≡ true → (a ≡ true) × (b ≡ true)

@@ -25,7 +25,6 @@ pub mod Distance
 pub mod Position
 pub mod Truncate
 pub mod TimesPower
-pub mod Marks
 pub mod Freqs
 pub mod MultRange
 pub mod TableLaws

@@ -13,9 +13,9 @@ use lib.Ieee.{Float, nan, inf, fin, Format, binary32, up, down, round, sum, add,
 use Rattle.bands.specs.Root.{rootOf}
 use Rattle.bands.specs.Distance.{shareOf, distanceOf}
 use Rattle.bands.specs.Position.{positionOf}
-use Rattle.bands.specs.Bands.{atOf}
 use Rattle.bands.specs.Weights.{between, bandWeight}
-use Rattle.bands.specs.Views.{arrayOf, gridCell, putOf, Laid, Mirrored, Copied}
+use Rattle.bands.specs.Views.{bandIn}
+use Rattle.bands.specs.Grids.{gridCell, putOf, Laid, Mirrored, Copied}
 use Rattle.bands.proofs.Cells.{place-row, place-column, place-in, next-row}
 use Rattle.bands.proofs.Laid.{laid-next, laid-at}
 
@@ -80,12 +80,12 @@ weight-swap : (bs : ℕ → Float) (n w y x : ℕ) → bandWeight bs n w w y x �
 unfolding bandWeight
 weight-swap bs n w y x = ap (λ (d : Float). cond (eqb n 1) (bs 0) (between bs (positionOf d n))) (distance-swap x y (w - 1))
 
-pub mirrored : (a b c : List Float) (n w h : ℕ) → Mirrored (gridCell a b c n w h) w h
-mirrored a b c n w h = record { same = λ e k y x X Y. subst (λ (z : ℕ). gridCell a b c n w z k (y * w + x) ≡ gridCell a b c n w z k (x * w + y)) e (square k y x X Y) }
+pub mirrored : (a : List Float) (n w h : ℕ) → Mirrored (gridCell a n w h) w h
+mirrored a n w h = record { same = λ e k y x X Y. subst (λ (z : ℕ). gridCell a n w z k (y * w + x) ≡ gridCell a n w z k (x * w + y)) e (square k y x X Y) }
   where
-    square : (k y x : ℕ) → x < w → y < w → gridCell a b c n w w k (y * w + x) ≡ gridCell a b c n w w k (x * w + y)
+    square : (k y x : ℕ) → x < w → y < w → gridCell a n w w k (y * w + x) ≡ gridCell a n w w k (x * w + y)
     square k y x X Y =
-        let l = atOf (arrayOf a b c k) in
+        let l = bandIn a k in
         ap₂ (λ (j i : ℕ). bandWeight l n w w j i) (place-row y x w w X Y) (place-column y x w w X Y)
         ∙ weight-swap l n w y x
         ∙ sym (ap₂ (λ (j i : ℕ). bandWeight l n w w j i) (place-row x y w w Y X) (place-column x y w w Y X))

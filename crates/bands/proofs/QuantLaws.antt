@@ -12,7 +12,8 @@ use lib.Dec.{ltb}
 use lib.ListN.{length, getD, take, drop, replicate, length-drop}
 use lib.Ieee.{Float, nan}
 use Rattle.bands.specs.Bands.{nought, atOf, bandAt, sound}
-use Rattle.bands.specs.Views.{Grid, Banding, isDone, arrayOf, gridCell, gridOf}
+use Rattle.bands.specs.Views.{bandIn, Banding, isDone}
+use Rattle.bands.specs.Grids.{Grid, gridCell, gridOf, Channels}
 use Rattle.bands.specs.Quant.{replyOf, lentRight, channelOf, soundOf, orElse, bandAnswer, dctAnswer, dctWeight, dctTable, leaves, dctLeaves}
 use Rattle.bands.specs.declared.quant.Banded.{Banded}
 use Rattle.bands.specs.declared.quant.Banded.the-variants.{Done, Lent, Band}
@@ -37,16 +38,39 @@ part-is ps n c a e p q = ap (λ (z : ℕ). take z (drop a ps)) (less (c * n) a e
     less : (m a e n : ℕ) → a ≡ m → e ≡ m + n → e - a ≡ n
     less m a e n p q = omega arith
 
+pub part-length : (ps : List Float) (n c : ℕ) → length ps ≡ 3 * n → c < 3 → length (take (c * n + n - c * n) (drop (c * n) ps)) ≡ n
+part-length ps n c e h = ap length (part-is ps n c (c * n) (c * n + n) refl refl) ∙ channel-length ps n c e h
+
 pub sound-part : (ps : List Float) (n c s : ℕ) → length ps ≡ 3 * n → c < 3
     → s ≡ sound (atOf (take (c * n + n - c * n) (drop (c * n) ps))) (length (take (c * n + n - c * n) (drop (c * n) ps))) → s ≡ soundOf ps n c
 sound-part ps n c s e h q =
     q ∙ ap (λ (l : List Float). sound (atOf l) (length l)) (part-is ps n c (c * n) (c * n + n) refl refl) ∙ ap (sound (atOf (channelOf ps n c))) (channel-length ps n c e h)
 
-pub banding-part : (ps b l : List Float) (n c a e : ℕ) → a ≡ c * n → e ≡ c * n + n → length ps ≡ 3 * n → c < 3 → l ≡ take (e - a) (drop a ps) → Banding (atOf l) (length l) b
-    → (i : ℕ) → i < n → atOf b i ≡ bandAt (atOf (channelOf ps n c)) i
-banding-part ps b l n c a e p q k h z g i t =
-    let s : l ≡ channelOf ps n c = z ∙ part-is ps n c a e p q in
-    g .each i (subst (λ (j : ℕ). i < j) (sym (ap length s ∙ channel-length ps n c k h)) t) ∙ ap (λ (m : List Float). bandAt (atOf m) i) s
+-- ---- the bands, channel by channel
+pub channels-none : (ps : List Float) (n : ℕ) (l : List Float) → Channels ps n 0 l
+channels-none ps n l = record { each = λ c i h. absurd (not-suc-le-zero h) }
+
+pub channels-more : (ps : List Float) (n c : ℕ) (l r : List Float) → length ps ≡ 3 * n → c < 3 → n ≤ 16 → Channels ps n c l
+    → Banding (atOf (take (c * n + n - c * n) (drop (c * n) ps))) (length (take (c * n + n - c * n) (drop (c * n) ps))) l (c * 16) r → Channels ps n (c + 1) r
+channels-more ps n c l r k h few f g = record { each = λ d i s t. ⊎-elim (λ q. here d i q t) (λ q. old d i q t) (eq-or-lt-of-le (under d s)) }
+  where
+    under : (d : ℕ) → d < c + 1 → d ≤ c
+    under d s = omega arith
+
+    part : take (c * n + n - c * n) (drop (c * n) ps) ≡ channelOf ps n c
+    part = part-is ps n c (c * n) (c * n + n) refl refl
+
+    new : (i : ℕ) → i < n → bandIn r c i ≡ bandAt (atOf (channelOf ps n c)) i
+    new i t = g .each i (subst (λ (j : ℕ). i < j) (sym (part-length ps n c k h)) t) ∙ ap (λ (m : List Float). bandAt (atOf m) i) part
+
+    here : (d i : ℕ) → d ≡ c → i < n → bandIn r d i ≡ bandAt (atOf (channelOf ps n d)) i
+    here d i q t = subst (λ (e : ℕ). bandIn r e i ≡ bandAt (atOf (channelOf ps n e)) i) (sym q) (new i t)
+
+    old : (d i : ℕ) → d < c → i < n → bandIn r d i ≡ bandAt (atOf (channelOf ps n d)) i
+    old d i q t = g .before (d * 16 + i) (omega arith) ∙ f .each d i q t
+
+pub channels-all : (ps : List Float) (n c : ℕ) (l : List Float) → 3 ≤ c → Channels ps n c l → Channels ps n 3 l
+channels-all ps n c l h f = record { each = λ d i s t. f .each d i (lt-of-lt-of-le s h) t }
 
 -- ---- BAND, channel by channel
 module _ (ps : List Float) (n : ℕ) where
@@ -79,25 +103,16 @@ module _ (ps : List Float) (n : ℕ) where
       same : (c : ℕ) → 3 ≤ c → c ≤ 3 → 3 ≡ c
       same c a b = omega arith
 
--- ---- the three arrays of bands give the table
-module _ (ps : List Float) (n w h size : ℕ) (b0 b1 b2 : List Float) (g : Grid n w h size)
-    (a0 : (i : ℕ) → i < n → atOf b0 i ≡ bandAt (atOf (channelOf ps n 0)) i)
-    (a1 : (i : ℕ) → i < n → atOf b1 i ≡ bandAt (atOf (channelOf ps n 1)) i)
-    (a2 : (i : ℕ) → i < n → atOf b2 i ≡ bandAt (atOf (channelOf ps n 2)) i) where
-  channel : (k : ℕ) → k < 3 → (i : ℕ) → i < n → atOf (arrayOf b0 b1 b2 k) i ≡ bandAt (atOf (channelOf ps n k)) i
-  channel zero s = a0
-  channel (suc zero) s = a1
-  channel (suc (suc zero)) s = a2
-  channel (suc (suc (suc k))) s = absurd (not-suc-le-zero (le-of-suc-le-suc (le-of-suc-le-suc (le-of-suc-le-suc s))))
-
-  cell : (k q : ℕ) → k < 3 → q < w * h → gridCell b0 b1 b2 n w h k q ≡ dctWeight ps n w h k (q / w) (q % w)
+-- ---- the bands of three channels give the table
+module _ (ps : List Float) (n w h size : ℕ) (l : List Float) (g : Grid n w h size) (f : Channels ps n 3 l) where
+  cell : (k q : ℕ) → k < 3 → q < w * h → gridCell l n w h k q ≡ dctWeight ps n w h k (q / w) (q % w)
   cell k q s t =
-      weight-agrees (atOf (arrayOf b0 b1 b2 k)) (bandAt (atOf (channelOf ps n k))) n (channel k s) w h (q / w) (q % w)
+      weight-agrees (bandIn l k) (bandAt (atOf (channelOf ps n k))) n (λ i b. f .each k i s b) w h (q / w) (q % w)
       (g .some) (g .few) (g .wide) (g .not-wider) (g .high) (g .not-higher) (row-under q w h (g .wide) t) (mod-lt q (lt-of-lt-of-le (omega arith) (g .wide)))
 
-  pub table-is : gridOf b0 b1 b2 n w h ≡ dctTable ps n w h
+  pub table-is : gridOf l n w h ≡ dctTable ps n w h
   unfolding gridOf dctTable
-  table-is = tab-same (3 * (w * h)) (λ p. gridCell b0 b1 b2 n w h (p / (w * h)) (p % (w * h))) (λ p. dctWeight ps n w h (p / (w * h)) (p % (w * h) / w) (p % (w * h) % w)) nan
+  table-is = tab-same (3 * (w * h)) (λ p. gridCell l n w h (p / (w * h)) (p % (w * h))) (λ p. dctWeight ps n w h (p / (w * h)) (p % (w * h) / w) (p % (w * h) % w)) nan
       (λ p t. cell (p / (w * h)) (p % (w * h)) (div-lt-iff-lt-mul (area-pos w h (g .wide) (g .high)) .1 t) (mod-lt p (area-pos w h (g .wide) (g .high))))
 
 -- ---- the whole call

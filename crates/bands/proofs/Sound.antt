@@ -4,7 +4,7 @@ use mathlib.Core.Logic.{⊎-elim}
 use mathlib.Core.Bool.{Bool, true, false, cond, not, _&&_, _||_, false≢true}
 use mathlib.Core.List.{List}
 use Prim.Native.Nat.{ℕ, zero, suc, _+_, _-_, _≤_, _<_}
-use native.Mathlib.Nat.{le-of-suc-le-suc, not-suc-le-zero, eq-or-lt-of-le, le-refl, le-trans, lt-of-lt-of-le}
+use native.Mathlib.Nat.{le-of-suc-le-suc, not-suc-le-zero, eq-or-lt-of-le, le-refl, le-trans, lt-of-lt-of-le, add-zero}
 use native.Mathlib.Numerals.{add-one}
 use native.Mathlib.Omega.{arith}
 use borrow.Author.Tests.{eq-eqb, ne-eqb, eqb-true}
@@ -23,12 +23,13 @@ pub record Sounding (ps : ℕ → Float) (n i : ℕ) (last : Float) : Type 0 whe
   pub is : last ≡ bandAt ps (i - 1)
 
 -- the first i of n bands stand in the array, and `last` is the last of them
-pub record Filling (ps : ℕ → Float) (n i : ℕ) (last : Float) (l : List Float) : Type 0 where
+pub record Filling (ps : ℕ → Float) (n : ℕ) (o : List Float) (at i : ℕ) (last : Float) (l : List Float) : Type 0 where
   pub from : 1 ≤ i
   pub within : i ≤ n
-  pub long : length l ≡ 16
+  pub long : length l ≡ length o
   pub is : last ≡ bandAt ps (i - 1)
-  pub each : (j : ℕ) → j < i → getD l j nan ≡ bandAt ps j
+  pub before : (j : ℕ) → j < at → getD l j nan ≡ getD o j nan
+  pub each : (j : ℕ) → j < i → getD l (at + j) nan ≡ bandAt ps j
 
 same-last : (i : ℕ) → i ≡ i + 1 - 1
 same-last i = omega arith
@@ -115,20 +116,21 @@ module _ (ps : ℕ → Float) where
   pub sounding-all : (n i : ℕ) (last : Float) → n ≤ i → Sounding ps n i last → i ≡ sound ps n
   sounding-all n i last h s = sym (s .all) ∙ ap (sound ps) (same-end n i h (s .within))
 
-  -- ---- `bands_of`
-  pub filling-one : (n : ℕ) (l : List Float) → 1 ≤ n → length l ≡ 16 → Filling ps n 1 (ps 0) (set l 0 (ps 0))
-  filling-one n l h e = record { from = le-refl 1; within = h; long = length-set l 0 (ps 0) ∙ e; is = sym first-band; each = first }
+  -- ---- `lay_bands`
+  pub filling-one : (n : ℕ) (o : List Float) (at : ℕ) → 1 ≤ n → at < length o → Filling ps n (set o at (ps 0)) at 1 (ps 0) (set o at (ps 0))
+  filling-one n o at h e = record { from = le-refl 1; within = h; long = refl; is = sym first-band; before = λ j g. refl; each = first }
     where
-      first : (j : ℕ) → j < 1 → getD (set l 0 (ps 0)) j nan ≡ bandAt ps j
-      first zero g = getD-set-same l 0 (ps 0) nan (omega arith) ∙ sym first-band
+      first : (j : ℕ) → j < 1 → getD (set o at (ps 0)) (at + j) nan ≡ bandAt ps j
+      first zero g = ap (λ (k : ℕ). getD (set o at (ps 0)) k nan) (add-zero at) ∙ getD-set-same o at (ps 0) nan e ∙ sym first-band
       first (suc j) g = absurd (not-suc-le-zero (le-of-suc-le-suc g))
 
-  pub filling-more : (n i : ℕ) (last m : Float) (l : List Float) → Filling ps n i last l → m ≡ multOf (ps i) → i < n → n ≤ 16 → Filling ps n (i + 1) (mul binary32 last m) (set l i (mul binary32 last m))
-  filling-more n i last m l s e h top = record {
+  pub filling-more : (n : ℕ) (o : List Float) (at i : ℕ) (last m : Float) (l : List Float) → Filling ps n o at i last l → m ≡ multOf (ps i) → i < n → at + n ≤ length o → Filling ps n o at (i + 1) (mul binary32 last m) (set l (at + i) (mul binary32 last m))
+  filling-more n o at i last m l s e h top = record {
     from = omega arith;
     within = omega arith;
-    long = length-set l i b ∙ s .long;
+    long = length-set l (at + i) b ∙ s .long;
     is = new ∙ ap (bandAt ps) (same-last i);
+    before = λ j g. getD-set-other l (at + i) j b nan (λ q. omega arith) ∙ s .before j g;
     each = λ j g. ⊎-elim (λ q. here j q) (λ k. old j k) (eq-or-lt-of-le (under j g));
   }
     where
@@ -141,17 +143,21 @@ module _ (ps : ℕ → Float) where
       under : (j : ℕ) → j < i + 1 → j ≤ i
       under j g = omega arith
 
-      fit : i < length l
-      fit = subst (λ (k : ℕ). i < k) (sym (s .long)) (omega arith)
+      fit : at + i < length l
+      fit = subst (λ (k : ℕ). at + i < k) (sym (s .long)) (omega arith)
 
-      here : (j : ℕ) → j ≡ i → getD (set l i b) j nan ≡ bandAt ps j
-      here j q = ap (λ (k : ℕ). getD (set l i b) k nan) q ∙ getD-set-same l i b nan fit ∙ new ∙ ap (bandAt ps) (sym q)
+      here : (j : ℕ) → j ≡ i → getD (set l (at + i) b) (at + j) nan ≡ bandAt ps j
+      here j q = ap (λ (k : ℕ). getD (set l (at + i) b) (at + k) nan) q ∙ getD-set-same l (at + i) b nan fit ∙ new ∙ ap (bandAt ps) (sym q)
 
-      old : (j : ℕ) → j < i → getD (set l i b) j nan ≡ bandAt ps j
-      old j k = getD-set-other l i j b nan (λ q. omega arith) ∙ s .each j k
+      old : (j : ℕ) → j < i → getD (set l (at + i) b) (at + j) nan ≡ bandAt ps j
+      old j k = getD-set-other l (at + i) (at + j) b nan (λ q. omega arith) ∙ s .each j k
 
-  pub filling-all : (n i : ℕ) (last : Float) (l : List Float) → n ≤ i → Filling ps n i last l → Banding ps n l
-  filling-all n i last l h s = record { each = λ j g. s .each j (lt-of-lt-of-le g h) }
+  pub filling-all : (n : ℕ) (o : List Float) (at i : ℕ) (last v : Float) (l : List Float) → n ≤ i → Filling ps n (set o at v) at i last l → Banding ps n o at l
+  filling-all n o at i last v l h s = record {
+    long = s .long ∙ length-set o at v;
+    before = λ j g. s .before j g ∙ getD-set-other o at j v nan (λ q. omega arith);
+    each = λ j g. s .each j (lt-of-lt-of-le g h);
+  }
 
   -- ---- where all are sound, none after the first is refused
   sound-le : (n : ℕ) → sound ps n ≤ n

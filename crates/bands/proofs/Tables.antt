@@ -4,7 +4,7 @@ use mathlib.Core.Logic.{_⊎_, inl, inr}
 use mathlib.Core.Bool.{Bool, true, false, not, cond}
 use mathlib.Core.List.{List}
 use Prim.Native.Nat.{ℕ, zero, suc, _+_, _-_, _*_, _/_, _%_, _^_, _≤_, _<_, zero-le}
-use native.Mathlib.Nat.{zero-add, le-refl, le-trans, le-of-eq, le-of-lt, lt-irrefl, lt-of-lt-of-le, lt-of-le-of-lt, mod-lt, mul-le-mul, not-suc-le-zero}
+use native.Mathlib.Nat.{zero-add, le-refl, le-trans, le-of-eq, le-of-lt, lt-irrefl, lt-of-lt-of-le, lt-of-le-of-lt, mod-lt, mod-eq-of-lt, mul-add-mod-self-right, mul-le-mul, not-suc-le-zero}
 use native.Mathlib.Numerals.{add-one}
 use native.Mathlib.Omega.{arith}
 use lib.Dec.{T, eqb, lit≤, lit<}
@@ -15,8 +15,9 @@ use lib.Count.{leadingZeros}
 use lib.Ieee.{Float, nan, binary32, round, toBits}
 use borrow.Author.Tests.{ne-eqb}
 use Rattle.bands.specs.Root.{wholeRoot}
+use Rattle.bands.specs.Bands.{atOf}
 use Rattle.bands.specs.Power.{chain, products, field, scaled, normal, turns, mantissa, powerOf, P}
-use Rattle.bands.specs.Views.{chainFrom, IsChain, startOf, fieldOf, Links, Holds, Linked, ratioAt, Held, finished, Starts}
+use Rattle.bands.specs.Views.{chainFrom, IsChain, startOf, fieldOf, Links, Holds, Linked, ratioAt, Held, Added, finished, secondRow, powerIn, Ready, Starts}
 use Rattle.bands.proofs.Fields.{normal-is}
 use Rattle.bands.proofs.Chains.{chain-le, products-ge, products-lt}
 use Rattle.bands.proofs.ChainLists.{at-chain, isChain, first-of, chainFrom-length, split-lt, power-is}
@@ -31,26 +32,25 @@ links-of l c = record { inside = le-of-eq (sym (ap length (c .is) ∙ chainFrom-
 pub top-links : (l : List ℕ) → l ≡ chainFrom (2 ^ 32) 33 → Links l 0
 top-links l e = links-of l (isChain (2 ^ 32) l e (lit≤ tt) (lit≤ tt))
 
--- ---- a turn of a row of products, by the chain at `at`
-module _ (l : List ℕ) (at n y z left : ℕ) (k : Links l at) (c : Left (getD l at 0) n y z left) (p : 0 < left) where
-  next-is : getD l (at + 1 + leadingZeros 32 left) 0 ≡ chain (getD l at 0) (suc (leadingZeros 32 left))
+-- ---- a turn of a row of products, by the chain at `at`: the number for the highest bit that is left stands at i
+module _ (l : List ℕ) (at n y z left i : ℕ) (is : i ≡ at + (1 + leadingZeros 32 left)) (k : Links l at) (c : Left (getD l at 0) n y z left) (p : 0 < left) where
+  next-is : getD l i 0 ≡ chain (getD l at 0) (suc (leadingZeros 32 left))
   next-is =
-      let j = leadingZeros 32 left in
       let f : leadingZeros 32 left < 32 = left-few (getD l at 0) n y z left c p in
-      let e : at + 1 + leadingZeros 32 left ≡ at + suc (leadingZeros 32 left) = omega arith in
-      ap (λ (i : ℕ). getD l i 0) e ∙ k .each (suc (leadingZeros 32 left)) (omega arith)
+      let e : i ≡ at + suc (leadingZeros 32 left) = omega arith in
+      ap (λ (j : ℕ). getD l j 0) e ∙ k .each (suc (leadingZeros 32 left)) (omega arith)
 
-  pub link-inside : at + 1 + leadingZeros 32 left < length l
+  pub link-inside : i < length l
   link-inside = let f : leadingZeros 32 left < 32 = left-few (getD l at 0) n y z left c p in omega (arith, k .inside)
 
-  pub link-on : Left (getD l at 0) n y (z * getD l (at + 1 + leadingZeros 32 left) 0 / 2 ^ 31) (left % unit (leadingZeros 32 left))
+  pub link-on : Left (getD l at 0) n y (z * getD l i 0 / 2 ^ 31) (left % unit (leadingZeros 32 left))
   link-on = left-on (getD l at 0) n y z left c p _ (ap (λ (x : ℕ). z * x / 2 ^ 31) next-is)
 
-  pub link-fits : 0 < y → y ≤ 2 ^ 31 → n < 2 ^ 32 → z * getD l (at + 1 + leadingZeros 32 left) 0 < 2 ^ 64
+  pub link-fits : 0 < y → y ≤ 2 ^ 31 → n < 2 ^ 32 → z * getD l i 0 < 2 ^ 64
   link-fits Y Y' N =
       let a : z < 2 ^ 32 = left-under (getD l at 0) n y z left c (k .low) (k .high) Y Y' N in
-      let b : getD l (at + 1 + leadingZeros 32 left) 0 ≤ 2 ^ 32 = le-trans (le-of-eq next-is) (chain-le (getD l at 0) (k .high) (suc (leadingZeros 32 left))) in
-      let m : z * getD l (at + 1 + leadingZeros 32 left) 0 ≤ (2 ^ 32 - 1) * 2 ^ 32 = mul-le-mul {n₂ = 2 ^ 32 - 1} {m₂ = 2 ^ 32} (omega arith) b in
+      let b : getD l i 0 ≤ 2 ^ 32 = le-trans (le-of-eq next-is) (chain-le (getD l at 0) (k .high) (suc (leadingZeros 32 left))) in
+      let m : z * getD l i 0 ≤ (2 ^ 32 - 1) * 2 ^ 32 = mul-le-mul {n₂ = 2 ^ 32 - 1} {m₂ = 2 ^ 32} (omega arith) b in
       lt-of-le-of-lt m (lit< tt)
 
 -- ---- the start and the field of a q
@@ -98,13 +98,13 @@ field-few q = go (decide (normal q))
 -- ---- the chain of s laid from `at` on, j numbers of it
 pub record Linking (o : List ℕ) (at e s : ℕ) (l : List ℕ) (last j : ℕ) : Type 0 where
   pub most : j ≤ 33
-  pub long : length l ≡ 510
+  pub long : length l ≡ 1632
   pub next : last ≡ chain s j
   pub before : (i : ℕ) → i < at → getD l i 0 ≡ getD o i 0
   pub first : getD l at 0 ≡ e
   pub done : (i : ℕ) → i < j → getD l (at + 1 + i) 0 ≡ chain s i
 
-pub linking-none : (o : List ℕ) (at e s : ℕ) → length o ≡ 510 → at + 34 ≤ 510 → Linking (set o at e) at e s (set o at e) s 0
+pub linking-none : (o : List ℕ) (at e s : ℕ) → length o ≡ 1632 → at + 34 ≤ 1632 → Linking (set o at e) at e s (set o at e) s 0
 unfolding chain
 linking-none o at e s h a = record {
   most = zero-le;
@@ -115,7 +115,7 @@ linking-none o at e s h a = record {
   done = λ i b. absurd (not-suc-le-zero b);
 }
 
-pub linking-more : (o : List ℕ) (at e s : ℕ) (l : List ℕ) (last j w : ℕ) → at + 34 ≤ 510 → Linking o at e s l last j → j < 33 → w ≡ wholeRoot (last * 2 ^ 31) → Linking o at e s (set l (at + 1 + j) last) w (j + 1)
+pub linking-more : (o : List ℕ) (at e s : ℕ) (l : List ℕ) (last j w : ℕ) → at + 34 ≤ 1632 → Linking o at e s l last j → j < 33 → w ≡ wholeRoot (last * 2 ^ 31) → Linking o at e s (set l (at + 1 + j) last) w (j + 1)
 unfolding chain
 linking-more o at e s l last j w a f h x = record {
   most = omega arith;
@@ -127,7 +127,7 @@ linking-more o at e s l last j w a f h x = record {
 }
   where
     fits : at + 1 + j < length l
-    fits = lt-of-lt-of-le {m = 510} (omega arith) (le-of-eq (sym (f .long)))
+    fits = lt-of-lt-of-le {m = 1632} (omega arith) (le-of-eq (sym (f .long)))
 
     go : (i : ℕ) → (i ≡ j) ⊎ (i < j) → getD (set l (at + 1 + j) last) (at + 1 + i) 0 ≡ chain s i
     go i (inl p) = subst (λ (z : ℕ). getD (set l (at + 1 + j) last) (at + 1 + z) 0 ≡ chain s z) (sym p) (getD-set-same l (at + 1 + j) last 0 fits ∙ f .next)
@@ -136,7 +136,7 @@ linking-more o at e s l last j w a f h x = record {
 pub linking-small : (o : List ℕ) (at e s : ℕ) (l : List ℕ) (last j : ℕ) → s < 2 ^ 32 → Linking o at e s l last j → last ≤ 2 ^ 32
 linking-small o at e s l last j h f = le-trans (le-of-eq (f .next)) (chain-le s (le-of-lt h) j)
 
-pub linking-all : (o : List ℕ) (at e s : ℕ) (l : List ℕ) (last j : ℕ) → length o ≡ 510 → 33 ≤ j → Linking (set o at e) at e s l last j → Linked o at e s l
+pub linking-all : (o : List ℕ) (at e s : ℕ) (l : List ℕ) (last j : ℕ) → length o ≡ 1632 → 33 ≤ j → Linking (set o at e) at e s l last j → Linked o at e s l
 linking-all o at e s l last j h g f = record {
   long = f .long ∙ sym h;
   before = λ i b. f .before i b ∙ getD-set-other o at i e 0 (λ (q : i ≡ at). lt-irrefl at (subst (λ (z : ℕ). z < at) q b));
@@ -144,36 +144,61 @@ linking-all o at e s l last j h g f = record {
   each = λ i b. f .done i (lt-of-lt-of-le b g);
 }
 
--- ---- the ratios of bands laid, i of them
-pub record Holding (bs : List Float) (i : ℕ) (l : List ℕ) : Type 0 where
-  pub long : length l ≡ 510
-  pub each : (k : ℕ) → k < i → Holds l (k * 34) (ratioAt bs k)
+-- ---- ratio j laid, where there is one
+pub added-none : (bs : List Float) (n j : ℕ) (l : List ℕ) → n ≤ j % 16 + 1 → Added bs n j l l
+added-none bs n j l h = record { long = refl; before = λ i b. refl; holds = λ b. absurd (lt-irrefl n (lt-of-le-of-lt h b)) }
 
-pub holding-none : (bs : List Float) (l : List ℕ) → length l ≡ 510 → Holding bs 0 l
-holding-none bs l h = record { long = h; each = λ k b. absurd (not-suc-le-zero b) }
+pub added-one : (bs : List Float) (n j e s : ℕ) (l r : List ℕ) → j < 48 → length l ≡ 1632 → Linked l (j * 34) e s r → e ≡ fieldOf (ratioAt (atOf bs) j) → s ≡ startOf (ratioAt (atOf bs) j) → Added bs n j l r
+added-one bs n j e s l r h w k x y = record {
+  long = k .long;
+  before = k .before;
+  holds = λ b. record { inside = le-trans {m = 1632} (omega arith) (le-of-eq (sym (k .long ∙ w))); e = k .first ∙ x; each = λ i c. k .each i c ∙ ap (λ (z : ℕ). chain z i) y };
+}
 
-pub holding-more : (bs : List Float) (i e s : ℕ) (l r : List ℕ) → Holding bs i l → i < 15 → Linked l (i * 34) e s r → e ≡ fieldOf (ratioAt bs i) → s ≡ startOf (ratioAt bs i) → Holding bs (i + 1) r
-holding-more bs i e s l r f h k x y = record { long = k .long ∙ f .long; each = λ m b. go m (split-lt m i b) }
+-- ---- and all of them before j
+pub record Holding (bs : List Float) (n j : ℕ) (l : List ℕ) : Type 0 where
+  pub long : length l ≡ 1632
+  pub each : (k : ℕ) → k < j → k % 16 + 1 < n → Holds l (k * 34) (ratioAt (atOf bs) k)
+
+pub holding-none : (bs : List Float) (n : ℕ) (l : List ℕ) → length l ≡ 1632 → Holding bs n 0 l
+holding-none bs n l h = record { long = h; each = λ k b. absurd (not-suc-le-zero b) }
+
+pub holding-more : (bs : List Float) (n j : ℕ) (l r : List ℕ) → Holding bs n j l → j < 48 → Added bs n j l r → Holding bs n (j + 1) r
+holding-more bs n j l r f h k = record { long = k .long ∙ f .long; each = λ m b c. go m c (split-lt m j b) }
   where
-    wide : length r ≡ 510
-    wide = k .long ∙ f .long
-
-    here : Holds r (i * 34) (ratioAt bs i)
-    here = record { inside = le-trans {m = 510} (omega arith) (le-of-eq (sym wide)); e = k .first ∙ x; each = λ j b. k .each j b ∙ ap (λ (z : ℕ). chain z j) y }
-
-    old : (m : ℕ) → m < i → Holds r (m * 34) (ratioAt bs m)
-    old m b = record {
-      inside = le-trans {m = 510} (omega arith) (le-of-eq (sym wide));
-      e = k .before (m * 34) (omega arith) ∙ f .each m b .e;
-      each = λ j c. k .before (m * 34 + 1 + j) (omega arith) ∙ f .each m b .each j c;
+    old : (m : ℕ) → m < j → m % 16 + 1 < n → Holds r (m * 34) (ratioAt (atOf bs) m)
+    old m b c = record {
+      inside = le-trans {m = 1632} (omega arith) (le-of-eq (sym (k .long ∙ f .long)));
+      e = k .before (m * 34) (omega arith) ∙ f .each m b c .e;
+      each = λ i d. k .before (m * 34 + 1 + i) (omega arith) ∙ f .each m b c .each i d;
     }
 
-    go : (m : ℕ) → (m ≡ i) ⊎ (m < i) → Holds r (m * 34) (ratioAt bs m)
-    go m (inl p) = subst (λ (z : ℕ). Holds r (z * 34) (ratioAt bs z)) (sym p) here
-    go m (inr p) = old m p
+    go : (m : ℕ) → m % 16 + 1 < n → (m ≡ j) ⊎ (m < j) → Holds r (m * 34) (ratioAt (atOf bs) m)
+    go m c (inl p) = subst (λ (z : ℕ). Holds r (z * 34) (ratioAt (atOf bs) z)) (sym p) (k .holds (subst (λ (z : ℕ). z % 16 + 1 < n) p c))
+    go m c (inr p) = old m p c
 
-pub holding-all : (bs : List Float) (i n : ℕ) (l : List ℕ) → n ≤ i + 1 → Holding bs i l → Held bs n l
-holding-all bs i n l h f = record { each = λ k b. f .each k (omega arith) }
+pub holding-all : (bs : List Float) (n j : ℕ) (l : List ℕ) → 48 ≤ j → Holding bs n j l → Held bs n l
+holding-all bs n j l h f = record { each = λ k b c. f .each k (lt-of-lt-of-le b h) c }
+
+-- ratio i of channel c
+pub held-at : (bs : List Float) (n : ℕ) (l : List ℕ) (c i at : ℕ) → n ≤ 16 → c < 3 → i + 1 < n → at ≡ i * 34 + c * 544 → Held bs n l → Holds l at (ratioAt (atOf bs) (c * 16 + i))
+held-at bs n l c i at few h b p f =
+    let m : (c * 16 + i) % 16 ≡ i = mul-add-mod-self-right c 16 i ∙ mod-eq-of-lt (omega arith) in
+    let w : (c * 16 + i) * 34 ≡ at = omega arith in
+    subst (λ (z : ℕ). Holds l z (ratioAt (atOf bs) (c * 16 + i))) w (f .each (c * 16 + i) (omega arith) (subst (λ (z : ℕ). z + 1 < n) (sym m) b))
+
+-- ---- a row that starts in the table
+module _ (l : List ℕ) (at : ℕ) (k : Ready l at) (n y : ℕ) (N : n < 2 ^ 32) (e : y ≡ products (getD l (at + 1) 0) n (2 ^ 30) 32) where
+  -- is in the range that the second starts from
+  pub ready-starts : Starts y
+  ready-starts = (
+    le-trans (products-ge (getD l (at + 1) 0) n (2 ^ 30) (k .links .low) N 32 (le-refl 32)) (le-of-eq (sym e)),
+    lt-of-le-of-lt (le-of-eq e) (products-lt (getD l (at + 1) 0) n (2 ^ 30) (k .links .high) (pow-pos 30) N 32 (le-refl 32)),
+  )
+
+  -- and, finished, is the power there
+  pub ready-power : (v : Float) → v ≡ finished (getD l at 0) n (secondRow (getD l at 0) n y) → v ≡ powerIn l at n
+  ready-power v h = h ∙ ap (λ (z : ℕ). finished (getD l at 0) n (secondRow (getD l at 0) n z)) e
 
 -- ---- what stands in the table of a q
 module _ (l : List ℕ) (at : ℕ) (q : Float) (k : Holds l at q) where
@@ -181,45 +206,42 @@ module _ (l : List ℕ) (at : ℕ) (q : Float) (k : Holds l at q) where
   unfolding chain
   from-is = let z : at + 1 ≡ at + 1 + 0 = omega arith in ap (λ (i : ℕ). getD l i 0) z ∙ k .each 0 (lit< tt)
 
-  pub holds-links : Links l (at + 1)
-  holds-links = record {
-    inside = omega (arith, k .inside);
-    each = λ j b. k .each j b ∙ ap (λ (z : ℕ). chain z j) (sym from-is);
-    low = le-trans (start-low q) (le-of-eq (sym from-is));
-    high = le-trans (le-of-eq from-is) (start-high q);
+  pub holds-ready : Ready l at
+  holds-ready = record {
+    few = lt-of-le-of-lt (le-of-eq (k .e)) (field-few q);
+    links =
+        record {
+          inside = omega (arith, k .inside);
+          each = λ j b. k .each j b ∙ ap (λ (z : ℕ). chain z j) (sym from-is);
+          low = le-trans (start-low q) (le-of-eq (sym from-is));
+          high = le-trans (le-of-eq from-is) (start-high q);
+        };
   }
 
-  pub holds-few : getD l at 0 < 255
-  holds-few = lt-of-le-of-lt (le-of-eq (k .e)) (field-few q)
-
-  -- the first row is in the range that the second starts from
-  pub holds-starts : (n y : ℕ) → n < 2 ^ 32 → y ≡ products (getD l (at + 1) 0) n (2 ^ 30) 32 → Starts y
-  holds-starts n y N e = (
-    le-trans (products-ge (getD l (at + 1) 0) n (2 ^ 30) (holds-links .low) N 32 (le-refl 32)) (le-of-eq (sym e)),
-    lt-of-le-of-lt (le-of-eq e) (products-lt (getD l (at + 1) 0) n (2 ^ 30) (holds-links .high) (pow-pos 30) N 32 (le-refl 32)),
-  )
-
-  -- and the two rows, finished, are the power
-  pub holds-power : (n y z : ℕ) (v : Float) → y ≡ products (getD l (at + 1) 0) n (2 ^ 30) 32 → z ≡ products (2 ^ 32) (turns (getD l at 0) n % 2 ^ 32) y 32 → v ≡ finished (getD l at 0) n z → v ≡ P q n
+  -- gives its power
+  pub holds-power : (n : ℕ) → powerIn l at n ≡ P q n
   unfolding finished mantissa
-  holds-power n y z v a b c = go (decide (normal q))
+  holds-power n = go (decide (normal q))
     where
-      go : T (normal q) ⊎ T (not (normal q)) → v ≡ P q n
+      go : T (normal q) ⊎ T (not (normal q)) → powerIn l at n ≡ P q n
       go (inl t) =
           let f : getD l at 0 ≡ field q = k .e ∙ field-some q t in
           let s : getD l (at + 1) 0 ≡ scaled q = from-is ∙ start-some q t in
-          let m : z ≡ mantissa (scaled q) (field q) n = b ∙ ap₂ (λ (x w : ℕ). products (2 ^ 32) (turns x n % 2 ^ 32) w 32) f (a ∙ ap (λ (x : ℕ). products x n (2 ^ 30) 32) s) in
+          let z = secondRow (getD l at 0) n (products (getD l (at + 1) 0) n (2 ^ 30) 32) in
+          let m : z ≡ mantissa (scaled q) (field q) n = ap₂ (λ (x w : ℕ). secondRow x n (products w n (2 ^ 30) 32)) f s in
           let o : eqb (field q) 0 ≡ false = ne-eqb (field q) 0 (λ e. lt-irrefl 0 (lt-of-lt-of-le (normal-is q t .least) (le-of-eq e))) in
-          c ∙ ap (λ (x : ℕ). finished x n z) f ∙ ap (λ (u : Bool). cond u nan (round binary32 false (z * 2 ^ (turns (field q) n / 2 ^ 32)) (2 ^ 157))) o
+          ap (λ (x : ℕ). finished x n z) f ∙ ap (λ (u : Bool). cond u nan (round binary32 false (z * 2 ^ (turns (field q) n / 2 ^ 32)) (2 ^ 157))) o
           ∙ power-is (scaled q) (field q) n z m ∙ sym (chosen q n t)
-      go (inr t) = c ∙ ap (λ (x : ℕ). finished x n z) (k .e ∙ field-none q t) ∙ sym (not-chosen q n t)
+      go (inr t) = ap (λ (x : ℕ). finished x n (secondRow (getD l at 0) n (products (getD l (at + 1) 0) n (2 ^ 30) 32))) (k .e ∙ field-none q t) ∙ sym (not-chosen q n t)
 
 -- the second row is in the range that the last rounding asks
-pub second-range : (g y z : ℕ) → g < 2 ^ 32 → Starts y → z ≡ products (2 ^ 32) g y 32 → (2 ^ 30 ≤ z) × (z < 2 ^ 32)
-second-range g y z G s e = (
-  le-trans (s .0) (le-trans (products-ge (2 ^ 32) g y (lit≤ tt) G 32 (le-refl 32)) (le-of-eq (sym e))),
-  lt-of-le-of-lt (le-of-eq e) (lt-of-lt-of-le (products-lt (2 ^ 32) g y (le-refl (2 ^ 32)) (lt-of-lt-of-le (pow-pos 30) (s .0)) G 32 (le-refl 32)) (omega (arith, s .1))),
-)
+pub second-range : (e n y z : ℕ) → Starts y → z ≡ secondRow e n y → (2 ^ 30 ≤ z) × (z < 2 ^ 32)
+second-range e n y z s h =
+    let g = turns e n % 2 ^ 32 in
+    let G : g < 2 ^ 32 = mod-lt (turns e n) (pow-pos 32) in (
+      le-trans (s .0) (le-trans (products-ge (2 ^ 32) g y (lit≤ tt) G 32 (le-refl 32)) (le-of-eq (sym h))),
+      lt-of-le-of-lt (le-of-eq h) (lt-of-lt-of-le (products-lt (2 ^ 32) g y (le-refl (2 ^ 32)) (lt-of-lt-of-le (pow-pos 30) (s .0)) G 32 (le-refl 32)) (omega (arith, s .1))),
+    )
 
-pub second-is : (l : List ℕ) (e n t y z : ℕ) → l ≡ chainFrom (2 ^ 32) 33 → t ≡ turns e n → z ≡ products (getD l 0 0) (t % 2 ^ 32) y 32 → z ≡ products (2 ^ 32) (turns e n % 2 ^ 32) y 32
+pub second-is : (l : List ℕ) (e n t y z : ℕ) → l ≡ chainFrom (2 ^ 32) 33 → t ≡ turns e n → z ≡ products (getD l 0 0) (t % 2 ^ 32) y 32 → z ≡ secondRow e n y
 second-is l e n t y z k h x = x ∙ ap₂ (λ (r g : ℕ). products r (g % 2 ^ 32) y 32) (first-of (2 ^ 32) l k) h

@@ -1,19 +1,16 @@
--- What private functions ask of and promise each other. No public contract cites these. Definitions only.
+-- What private functions ask of and promise each other; `Grids` has the same for grids. No public contract cites these. Definitions only.
 use mathlib.Core.Path.{_≡_}
 use mathlib.Core.Bool.{Bool, true, false, cond}
 use mathlib.Core.List.{[], List, _∷_}
-use Prim.Native.Nat.{ℕ, zero, suc, _+_, _-_, _*_, _/_, _%_, _^_, _≤_, _<_}
-use lib.IntN.{pos}
-use lib.ListN.{length, getD, set, replicate}
+use Prim.Native.Nat.{ℕ, zero, suc, _+_, _*_, _/_, _%_, _^_, _≤_, _<_}
+use lib.ListN.{length, getD, replicate}
 use lib.Dec.{eqb}
-use lib.Ieee.{Float, nan, binary32, sub, mul, div, round, ofInt}
+use lib.Ieee.{Float, nan, binary32, div, round}
 use lib.Ieee.Exact.{HasValue}
 use Rattle.bands.specs.Root.{wholeRoot}
-use Rattle.bands.specs.Power.{chain, field, scaled, normal, turns, P}
+use Rattle.bands.specs.Power.{chain, field, scaled, normal, turns, products}
 use Rattle.bands.specs.Bands.{atOf, bandAt}
-use Rattle.bands.specs.Position.{indexOf, Cut}
-use Rattle.bands.specs.Weights.{bandWeight}
-use Rattle.bands.specs.Table.{tab}
+use Rattle.bands.specs.Position.{indexOf, fractionOf}
 use Rattle.bands.specs.declared.own_power.Ratio.{Ratio}
 use Rattle.bands.specs.declared.quant.Banded.{Banded}
 use Rattle.bands.specs.declared.quant.Banded.the-variants.{Done, Lent, Band}
@@ -76,30 +73,57 @@ pub record Linked (l : List ℕ) (at e s : ℕ) (r : List ℕ) : Type 0 where
   pub first : getD r at 0 ≡ e
   pub each : (j : ℕ) → j < 33 → getD r (at + 1 + j) 0 ≡ chain s j
 
--- the ratio of band i + 1 to band i
-abbrev pub ratioAt : List Float → ℕ → Float
-ratioAt bs i = div binary32 (atOf bs (i + 1)) (atOf bs i)
-
--- what P needs of the ratios of n bands, one after the other
-pub record Held (bs : List Float) (n : ℕ) (l : List ℕ) : Type 0 where
-  pub each : (i : ℕ) → i + 1 < n → Holds l (i * 34) (ratioAt bs i)
+-- l has a field and a chain there
+pub record Ready (l : List ℕ) (at : ℕ) : Type 0 where
+  pub few : getD l at 0 < 255
+  pub links : Links l (at + 1)
 
 -- the power of a field e at n from the mantissa y; a NaN for the field 0
 unfoldable pub finished : ℕ → ℕ → ℕ → Float
 unfolding round
 finished e n y = cond (eqb e 0) nan (round binary32 false (y * 2 ^ (turns e n / 2 ^ 32)) (2 ^ 157))
 
+-- the second row of products, from y
+abbrev pub secondRow : ℕ → ℕ → ℕ → ℕ
+secondRow e n y = products (2 ^ 32) (turns e n % 2 ^ 32) y 32
+
+-- the power at n by the field and the chain that stand in l at `at`
+abbrev pub powerIn : List ℕ → ℕ → ℕ → Float
+powerIn l at n = finished (getD l at 0) n (secondRow (getD l at 0) n (products (getD l (at + 1) 0) n (2 ^ 30) 32))
+
 -- a number that a row of products may start from
 abbrev pub Starts : ℕ → Type 0
 Starts y = (2 ^ 30 ≤ y) × (y < 2 ^ 31)
 
--- ---- segments
--- bands i and i + 1, and what p has beyond i
-abbrev pub segmentAt : List Float → Float → ℕ → Segment
-segmentAt bs p i = record { a = atOf bs i; b = atOf bs (i + 1); fraction = sub binary32 p (ofInt binary32 (pos i)) }
+-- ---- bands
+-- band i of channel c: three channels lie in one list, 16 places each
+abbrev pub bandIn : List Float → ℕ → ℕ → Float
+bandIn l c i = atOf l (c * 16 + i)
 
-abbrev pub segmentOf : List Float → Float → Segment
-segmentOf bs p = segmentAt bs p (indexOf p)
+-- r is l with the bands of n numbers laid from `at` on; what stands past them is not said
+pub record Banding (ps : ℕ → Float) (n : ℕ) (l : List Float) (at : ℕ) (r : List Float) : Type 0 where
+  pub long : length r ≡ length l
+  pub before : (j : ℕ) → j < at → getD r j nan ≡ getD l j nan
+  pub each : (i : ℕ) → i < n → getD r (at + i) nan ≡ bandAt ps i
+
+-- the ratio of band i + 1 to band i
+abbrev pub ratioAt : (ℕ → Float) → ℕ → Float
+ratioAt bs i = div binary32 (bs (i + 1)) (bs i)
+
+-- what P needs of the ratios of n bands of each channel, 34 numbers a ratio
+pub record Held (bs : List Float) (n : ℕ) (l : List ℕ) : Type 0 where
+  pub each : (j : ℕ) → j < 48 → j % 16 + 1 < n → Holds l (j * 34) (ratioAt (atOf bs) j)
+
+-- r is l with what P needs of ratio j, where there is one; what stands past it is not said
+pub record Added (bs : List Float) (n j : ℕ) (l r : List ℕ) : Type 0 where
+  pub long : length r ≡ length l
+  pub before : (i : ℕ) → i < j * 34 → getD r i 0 ≡ getD l i 0
+  pub holds : j % 16 + 1 < n → Holds r (j * 34) (ratioAt (atOf bs) j)
+
+-- ---- segments
+-- the bands on both sides of p, of the channel that starts at `from`, and what p has beyond the first
+abbrev pub segmentOf : List Float → ℕ → Float → Segment
+segmentOf bs from p = record { a = atOf bs (from + indexOf p); b = atOf bs (from + indexOf p + 1); fraction = fractionOf p }
 
 -- f is n / 2 ^ 32, for a whole n below 2 ^ 32
 pub record Steps (f : Float) (n : ℕ) : Type 0 where
@@ -109,69 +133,6 @@ pub record Steps (f : Float) (n : ℕ) : Type 0 where
 pub record Stepped (f : Float) : Type 0 where
   pub n : ℕ
   pub steps : Steps f n
-
--- ---- grids
--- a grid that the positions are proved for, and a list that it fills
-pub record Grid (n w h size : ℕ) : Type 0 where
-  pub some : 1 ≤ n
-  pub few : n ≤ 16
-  pub wide : 2 ≤ w
-  pub not-wider : w ≤ 256
-  pub high : 2 ≤ h
-  pub not-higher : h ≤ 256
-  pub all : size ≡ 3 * (w * h)
-
--- a grid for two bands or more
-pub record Sized (n w h : ℕ) : Type 0 where
-  pub many : 2 ≤ n
-  pub few : n ≤ 16
-  pub wide : 2 ≤ w
-  pub not-wider : w ≤ 256
-  pub high : 2 ≤ h
-  pub not-higher : h ≤ 256
-
--- t is the position of row y, column x in 2 ^ -32ths: the band before it, t / 2 ^ 32, and the power at t % 2 ^ 32 give the weight of any bands
-pub record Marked (x y n w h t : ℕ) : Type 0 where
-  pub inside : t / 2 ^ 32 + 1 < n
-  pub weight : (l : List Float) → mul binary32 (atOf l (t / 2 ^ 32)) (P (ratioAt l (t / 2 ^ 32)) (t % 2 ^ 32)) ≡ bandWeight (atOf l) n w h y x
-
--- the positions of row y from column `from` on
-pub record Marks (from y n w h : ℕ) (l : List ℕ) : Type 0 where
-  pub each : (x : ℕ) → from ≤ x → x < w → Marked x y n w h (getD l x 0)
-
--- the first q places of each channel hold what f says
-pub record Laid (f : ℕ → ℕ → Float) (area q : ℕ) (out : List Float) : Type 0 where
-  pub long : length out ≡ 3 * area
-  pub each : (k j : ℕ) → k < 3 → j < q → getD out (k * area + j) nan ≡ f k j
-
--- on a square grid f has at row y, column x what it has at row x, column y
-pub record Mirrored (f : ℕ → ℕ → Float) (w h : ℕ) : Type 0 where
-  pub same : w ≡ h → (k y x : ℕ) → x < w → y < w → f k (y * w + x) ≡ f k (x * w + y)
-
--- b is a with the columns of row y before x laid, for every f that a has before that row
-pub record Copied (w h y x : ℕ) (a b : List Float) : Type 0 where
-  pub lays : (f : ℕ → ℕ → Float) → Mirrored f w h → Laid f (w * h) (y * w) a → Laid f (w * h) (y * w + x) b
-
--- a list of three channels with place q of each set
-abbrev pub putOf : List Float → ℕ → ℕ → Float → Float → Float → List Float
-putOf l area q v0 v1 v2 = set (set (set l q v0) (area + q) v1) (area + area + q) v2
-
--- one of three arrays
-abbrev pub arrayOf : List Float → List Float → List Float → ℕ → List Float
-arrayOf a b c zero = a
-arrayOf a b c (suc zero) = b
-arrayOf a b c (suc (suc k)) = c
-
--- three channels of weights, in raster order, by the bands in three arrays
-abbrev pub gridCell : List Float → List Float → List Float → ℕ → ℕ → ℕ → ℕ → ℕ → Float
-gridCell a b c n w h k q = bandWeight (atOf (arrayOf a b c k)) n w h (q / w) (q % w)
-
-unfoldable pub gridOf : List Float → List Float → List Float → ℕ → ℕ → ℕ → List Float
-gridOf a b c n w h = tab (3 * (w * h)) (λ p. gridCell a b c n w h (p / (w * h)) (p % (w * h)))
-
--- the bands of n numbers, in an array
-pub record Banding (ps : ℕ → Float) (n : ℕ) (l : List Float) : Type 0 where
-  pub each : (i : ℕ) → i < n → getD l i nan ≡ bandAt ps i
 
 -- ---- answers: DONE or not
 abbrev pub isDone : Banded → Bool

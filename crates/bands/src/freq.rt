@@ -1,8 +1,8 @@
 // Mode 5's interpolated numbers.
-use crate::grid::index;
-use crate::grid::weigh_at;
-use crate::list::bands_of;
-use crate::own_power::ratio_of;
+use crate::list::lay_bands;
+use crate::spot::cut_at;
+use crate::spot::index;
+use crate::weigh::interpolate;
 ghost use mathlib.Core.Path.{_≡_};
 ghost use Prim.Native.Nat.{_<_};
 ghost use lib.ListN.{length};
@@ -42,11 +42,10 @@ fn corner_between(numbers: &[f32], k: usize) -> f32
     requires { ⌜ (length (now numbers) ≡ 4) × (k < 16) × Cut 4 (freqPosition k) ⌝ }
     ensures { λ r. ⌜ r ≡ between (bandAt (atOf (now (numbers .entry)))) (freqPosition k) ⌝ }
 {
-    let bands = bands_of(numbers);
+    let mut bands = [0.0f32; 48];
+    lay_bands(&mut bands, 0, numbers);
     let p = freq_position(k);
-    let i = index(p, 4);
-    let r = ratio_of(bands[i + 1] / bands[i]);
-    weigh_at(&bands, r, 4, p)
+    interpolate(cut_at(&bands, 0, index(p, 4), p))
 }
 
 // Whether k has an interpolated number.

@@ -7,6 +7,7 @@ mod quant;
 mod root;
 mod spot;
 mod three;
+mod weigh;
 mod whole;
 
 pub use freq::freq_weight;

@@ -1,6 +1,6 @@
 // A band list's weights over a grid.
 use crate::grid::fill;
-use crate::list::bands_of;
+use crate::list::lay_bands;
 use crate::list::sound_bands;
 use transform::Kind;
 ghost use mathlib.Core.Path.{_≡_};
@@ -8,7 +8,8 @@ ghost use Prim.Native.Nat.{_*_, _<_, _≤_};
 ghost use lib.ListN.{length, replicate};
 ghost use Rattle.bands.specs.Bands.{nought};
 ghost use Rattle.bands.specs.Quant.{kindIs, kindHas, gridded, lentRight, bandAnswer, dctAnswer, dctTable, dctLeaves};
-ghost use Rattle.bands.specs.Views.{Grid, isDone};
+ghost use Rattle.bands.specs.Views.{isDone};
+ghost use Rattle.bands.specs.Grids.{Grid, Channels};
 
 // What the call answers. In BAND the band is counted from 0 in its channel's list.
 pub enum Banded {
@@ -117,17 +118,29 @@ fn clear(s: &mut [f32])
     }
 }
 
+// The bands of the three channels, 16 places each.
+fn all_bands(numbers: &[f32], count: usize) -> [f32; 48]
+    requires { ⌜ (1 ≤ count) × (count ≤ 16) × (length (now numbers) ≡ 3 * count) ⌝ }
+    ensures { λ r. ⌜ Channels (now (numbers .entry)) count 3 r ⌝ }
+{
+    let mut all = [0.0f32; 48];
+    let mut c: usize = 0;
+    while c < 3 {
+        let at = c * count;
+        let end = at + count;
+        lay_bands(&mut all, c * 16, &numbers[at..end]);
+        c += 1;
+    }
+    all
+}
+
 // The weights of the three channels.
 fn weigh_all(numbers: &[f32], count: usize, w: usize, h: usize, out: &mut [f32])
     requires { ⌜ (length (now numbers) ≡ 3 * count) × Grid count w h (length (now out)) ⌝ }
     ensures { λ r. ⌜ now (out .exit) ≡ dctTable (now (numbers .entry)) count w h ⌝ }
 {
-    let two = count + count;
-    let all = two + count;
-    let b0 = bands_of(&numbers[0..count]);
-    let b1 = bands_of(&numbers[count..two]);
-    let b2 = bands_of(&numbers[two..all]);
-    fill(out, &b0, &b1, &b2, count as u16, w as u16, h as u16);
+    let bands = all_bands(numbers, count);
+    fill(out, &bands, count as u16, w as u16, h as u16);
 }
 
 // The weights of a band list over a grid: numbers are three channels of count, out three channels of width x height.

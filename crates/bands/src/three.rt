@@ -1,15 +1,14 @@
 // The powers of three ratios at one n, side by side: three products that do not wait for each other.
-// What P needs of the ratios of a channel's bands lies in one table, 34 numbers each, and is lent, not copied.
+// What P needs of the ratios of the three channels' bands lies in one table, 34 numbers each, and is lent, not copied.
 use crate::own_power::rounded;
 use crate::own_power::row;
+use crate::own_power::top_chain;
 use crate::whole::whole_root;
 ghost use mathlib.Core.Path.{_≡_};
-ghost use Prim.Native.Nat.{_+_, _*_, _%_, _^_, _<_, _≤_};
+ghost use Prim.Native.Nat.{_+_, _^_, _<_, _≤_};
 ghost use lib.ListN.{length, getD};
-ghost use lib.Ieee.{binary32, mul};
-ghost use Rattle.bands.specs.Power.{products, turns, P};
-ghost use Rattle.bands.specs.Bands.{atOf};
-ghost use Rattle.bands.specs.Views.{chainFrom, IsChain, startOf, fieldOf, Links, Holds, Linked, ratioAt, Held, finished, Starts};
+ghost use Rattle.bands.specs.Power.{products, turns};
+ghost use Rattle.bands.specs.Views.{startOf, fieldOf, Links, Linked, Held, Added, finished, secondRow, powerIn, Ready, Starts};
 
 // The field of a q, and the start of its chain.
 struct Start {
@@ -42,8 +41,8 @@ fn start_of(q: f32) -> Start
 }
 
 // The field e and the chain from s, from `at` on.
-fn put_chain(all: &mut [u64; 510], at: usize, e: u64, s: u32)
-    requires { ⌜ (at + 34 ≤ 510) × (length (now all) ≡ 510) ⌝ }
+fn put_chain(all: &mut [u64; 1632], at: usize, e: u64, s: u32)
+    requires { ⌜ (at + 34 ≤ 1632) × (length (now all) ≡ 1632) ⌝ }
     ensures { λ r. ⌜ Linked (now (all .entry)) at e s (now (all .exit)) ⌝ }
 {
     all[at] = e;
@@ -56,17 +55,28 @@ fn put_chain(all: &mut [u64; 510], at: usize, e: u64, s: u32)
     }
 }
 
-// What P needs of the ratio of each of count bands to the one before it.
-pub(crate) fn chains(bands: &[f32; 16], count: u16) -> [u64; 510]
+// What P needs of the ratio of band j + 1 to band j, where both are of one channel's count bands.
+fn put_ratio(all: &mut [u64; 1632], bands: &[f32; 48], j: usize, count: u16)
+    requires { ⌜ (j < 48) × (count ≤ 16) × (length (now all) ≡ 1632) ⌝ }
+    ensures { λ r. ⌜ Added (now (bands .entry)) count j (now (all .entry)) (now (all .exit)) ⌝ }
+{
+    if j % 16 + 1 >= (count as usize) {
+        return;
+    }
+    let q = start_of(bands[j + 1] / bands[j]);
+    put_chain(all, j * 34, q.e, q.s);
+}
+
+// What P needs of the ratios of count bands of each channel.
+pub(crate) fn chains(bands: &[f32; 48], count: u16) -> [u64; 1632]
     requires { ⌜ count ≤ 16 ⌝ }
     ensures { λ r. ⌜ Held (now (bands .entry)) count r ⌝ }
 {
-    let mut all = [0u64; 510];
-    let mut i: usize = 0;
-    while i + 1 < (count as usize) {
-        let q = start_of(bands[i + 1] / bands[i]);
-        put_chain(&mut all, i * 34, q.e, q.s);
-        i += 1;
+    let mut all = [0u64; 1632];
+    let mut j: usize = 0;
+    while j < 48 {
+        put_ratio(&mut all, bands, j, count);
+        j += 1;
     }
     all
 }
@@ -78,11 +88,11 @@ pub struct Three {
     pub c: u64,
 }
 
-// As `row`, of three chains that start at the same place: n is the same, so the three go in one loop.
-fn rows(r0: &[u64], r1: &[u64], r2: &[u64], at: usize, n: u32, y: Three) -> Three
-    requires { ⌜ (at ≤ 510) × Links (now r0) at × Links (now r1) at × Links (now r2) at ⌝ }
+// As `row`, of three chains of one table: n is the same, so the three go in one loop.
+fn rows(t: &[u64], at0: usize, at1: usize, at2: usize, n: u32, y: Three) -> Three
+    requires { ⌜ Links (now t) at0 × Links (now t) at1 × Links (now t) at2 ⌝ }
     requires { ⌜ Starts (y .a) × Starts (y .b) × Starts (y .c) ⌝ }
-    ensures { λ r. ⌜ (r .a ≡ products (getD (now (r0 .entry)) at 0) n (y .a) 32) × (r .b ≡ products (getD (now (r1 .entry)) at 0) n (y .b) 32) × (r .c ≡ products (getD (now (r2 .entry)) at 0) n (y .c) 32) ⌝ }
+    ensures { λ r. ⌜ (r .a ≡ products (getD (now (t .entry)) at0 0) n (y .a) 32) × (r .b ≡ products (getD (now (t .entry)) at1 0) n (y .b) 32) × (r .c ≡ products (getD (now (t .entry)) at2 0) n (y .c) 32) ⌝ }
 {
     let mut a = y.a;
     let mut b = y.b;
@@ -90,10 +100,10 @@ fn rows(r0: &[u64], r1: &[u64], r2: &[u64], at: usize, n: u32, y: Three) -> Thre
     let mut left = n;
     while left > 0 {
         let j = u32::leading_zeros(left);
-        let k = at + 1 + (j as usize);
-        a = (a * r0[k]) >> 31;
-        b = (b * r1[k]) >> 31;
-        c = (c * r2[k]) >> 31;
+        let k = 1 + (j as usize);
+        a = (a * t[at0 + k]) >> 31;
+        b = (b * t[at1 + k]) >> 31;
+        c = (c * t[at2 + k]) >> 31;
         left = left % (1 << (31 - j));
     }
     Three { a, b, c }
@@ -107,24 +117,31 @@ fn turned(e: u64, n: u64) -> u64
     e * n + 127 * (4294967296 - n)
 }
 
-// The second row of three powers: in one loop where the fields agree, since then the exponents do.
-fn seconds(top: &[u64; 33], e0: u64, e1: u64, e2: u64, n: u64, y: Three) -> Three
-    requires { ⌜ (now top ≡ chainFrom (2 ^ 32) 33) × (e0 < 255) × (e1 < 255) × (e2 < 255) × (n < 2 ^ 32) ⌝ }
-    requires { ⌜ Starts (y .a) × Starts (y .b) × Starts (y .c) ⌝ }
-    ensures { λ r. ⌜ (r .a ≡ products (2 ^ 32) (turns e0 n % 2 ^ 32) (y .a) 32) × (r .b ≡ products (2 ^ 32) (turns e1 n % 2 ^ 32) (y .b) 32) × (r .c ≡ products (2 ^ 32) (turns e2 n % 2 ^ 32) (y .c) 32) ⌝ }
+// The second row of products, from y.
+fn second(e: u64, n: u64, y: u64) -> u64
+    requires { ⌜ (e < 255) × (n < 2 ^ 32) × Starts y ⌝ }
+    ensures { λ r. ⌜ r ≡ secondRow e n y ⌝ }
 {
-    let g = turned(e0, n) % 4294967296;
+    let top = top_chain();
+    row(&top, turned(e, n) % 4294967296, y)
+}
+
+// The second row of three powers: in one loop where the fields agree, since then the exponents do.
+fn seconds(e0: u64, e1: u64, e2: u64, n: u64, y: Three) -> Three
+    requires { ⌜ (e0 < 255) × (e1 < 255) × (e2 < 255) × (n < 2 ^ 32) ⌝ }
+    requires { ⌜ Starts (y .a) × Starts (y .b) × Starts (y .c) ⌝ }
+    ensures { λ r. ⌜ (r .a ≡ secondRow e0 n (y .a)) × (r .b ≡ secondRow e1 n (y .b)) × (r .c ≡ secondRow e2 n (y .c)) ⌝ }
+{
     if e0 == e1 {
         if e1 == e2 {
-            return rows(top, top, top, 0, g as u32, y);
+            let top = top_chain();
+            return rows(&top, 0, 0, 0, (turned(e0, n) % 4294967296) as u32, y);
         }
     }
-    let g1 = turned(e1, n) % 4294967296;
-    let g2 = turned(e2, n) % 4294967296;
     Three {
-        a: row(top, g, y.a),
-        b: row(top, g1, y.b),
-        c: row(top, g2, y.c),
+        a: second(e0, n, y.a),
+        b: second(e1, n, y.b),
+        c: second(e2, n, y.c),
     }
 }
 
@@ -139,43 +156,37 @@ fn finish(e: u64, n: u64, y: u64) -> f32
     rounded(y, turned(e, n) >> 32)
 }
 
-// A weight of each channel.
+// A power or a weight of each channel.
 pub struct Weights {
     pub a: f32,
     pub b: f32,
     pub c: f32,
 }
 
-// Band i of each channel times the power of its ratio at n.
-pub(crate) fn weigh_three(
-    b0: &[f32; 16],
-    b1: &[f32; 16],
-    b2: &[f32; 16],
-    r0: &[u64; 510],
-    r1: &[u64; 510],
-    r2: &[u64; 510],
-    top: &[u64; 33],
-    i: usize,
-    n: u64,
-) -> Weights
-    requires { ⌜ (i < 15) × (n < 2 ^ 32) × (now top ≡ chainFrom (2 ^ 32) 33) ⌝ }
-    requires { ⌜ Holds (now r0) (i * 34) (ratioAt (now b0) i) × Holds (now r1) (i * 34) (ratioAt (now b1) i) × Holds (now r2) (i * 34) (ratioAt (now b2) i) ⌝ }
-    ensures { λ w. ⌜ (w .a ≡ mul binary32 (atOf (now (b0 .entry)) i) (P (ratioAt (now (b0 .entry)) i) n)) × (w .b ≡ mul binary32 (atOf (now (b1 .entry)) i) (P (ratioAt (now (b1 .entry)) i) n)) × (w .c ≡ mul binary32 (atOf (now (b2 .entry)) i) (P (ratioAt (now (b2 .entry)) i) n)) ⌝ }
+// The powers of three fields at n from the first rows of their products.
+fn finish_three(e0: u64, e1: u64, e2: u64, n: u64, first: Three) -> Weights
+    requires { ⌜ (e0 < 255) × (e1 < 255) × (e2 < 255) × (n < 2 ^ 32) ⌝ }
+    requires { ⌜ Starts (first .a) × Starts (first .b) × Starts (first .c) ⌝ }
+    ensures { λ w. ⌜ (w .a ≡ finished e0 n (secondRow e0 n (first .a))) × (w .b ≡ finished e1 n (secondRow e1 n (first .b))) × (w .c ≡ finished e2 n (secondRow e2 n (first .c))) ⌝ }
 {
-    let at = i * 34;
+    let y = seconds(e0, e1, e2, n, first);
+    Weights {
+        a: finish(e0, n, y.a),
+        b: finish(e1, n, y.b),
+        c: finish(e2, n, y.c),
+    }
+}
+
+// The powers at n of the ratios that stand at `at`, and a channel (16 ratios) and two channels after it.
+pub(crate) fn powers(t: &[u64; 1632], at: usize, n: u32) -> Weights
+    requires { ⌜ (at ≤ 510) × Ready (now t) at × Ready (now t) (at + 544) × Ready (now t) (at + 1088) ⌝ }
+    ensures { λ w. ⌜ (w .a ≡ powerIn (now (t .entry)) at n) × (w .b ≡ powerIn (now (t .entry)) (at + 544) n) × (w .c ≡ powerIn (now (t .entry)) (at + 1088) n) ⌝ }
+{
     let ones = Three {
         a: 1073741824,
         b: 1073741824,
         c: 1073741824,
     };
-    let first = rows(r0, r1, r2, at + 1, n as u32, ones);
-    let e0 = r0[at];
-    let e1 = r1[at];
-    let e2 = r2[at];
-    let y = seconds(top, e0, e1, e2, n, first);
-    Weights {
-        a: b0[i] * finish(e0, n, y.a),
-        b: b1[i] * finish(e1, n, y.b),
-        c: b2[i] * finish(e2, n, y.c),
-    }
+    let y = rows(t, at + 1, at + 544 + 1, at + 1088 + 1, n, ones);
+    finish_three(t[at], t[at + 544], t[at + 1088], n as u64, y)
 }

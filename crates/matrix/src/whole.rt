@@ -11,7 +11,7 @@ ghost use mathlib.Core.Path.{_≡_};
 ghost use Prim.Native.Nat.{_*_, _+_, _/_, _%_, _<_, _≤_};
 ghost use lib.ListN.{length};
 ghost use Rattle.transform.specs.Kinds.{placesOf};
-ghost use Rattle.bands.specs.Views.{putOf};
+ghost use Rattle.bands.specs.Grids.{putOf};
 ghost use Rattle.matrix.specs.Weight.{rule};
 ghost use Rattle.matrix.specs.Views.{rulesOf, gridsOf, Ready, Grids};
 

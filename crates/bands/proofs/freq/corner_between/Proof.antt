@@ -1,72 +1,53 @@
--- `freq::corner_between`. Assumes nothing.
+-- `freq::corner_between`: the four numbers' bands, in the segment of the position. Assumes nothing.
 use mathlib.Core.Path.{sym, ap, _∙_, subst}
-use Prim.Native.Nat.{ℕ, _+_, _<_}
+use Prim.Native.Nat.{ℕ, _<_}
 use lib.Dec.{lit≤}
-use lib.ListN.{getD}
-use lib.Ieee.{nan, binary32, div}
 use Rattle.bands.specs.Bands.{atOf, bandAt}
 use Rattle.bands.specs.Position.{Cut}
-use Rattle.bands.specs.Views.{ratioOf}
-use Rattle.bands.proofs.Freqs.{freq-position}
+use Rattle.bands.specs.Views.{Stepped, bandIn}
+use Rattle.bands.specs.Weights.{segmentWeight}
+use Rattle.bands.specs.declared.spot.Segment.{Segment}
 use Rattle.bands.proofs.Agree.{between-at}
+use Rattle.bands.proofs.Cells.{stepped, segment-between}
 use borrow.Author.Needs.{needs}
 use Rattle.bands.proofs.freq.corner_between.Statement.{statement}
 use Rattle.bands.proofs.freq.corner_between.Tie as tie
 
-bands-of-requires : tie.Need-bands-of-requires
-bands-of-requires c κs = search needs
+cut : (c : tie.After-freq-position) → Cut 4 (c .freq-position .result)
+cut c = subst (Cut 4) (sym (c .freq-position .ensures)) (c .before .before .before .before .pre .2)
+
+lay-bands-requires : tie.Need-lay-bands-requires
+lay-bands-requires c κs = search needs
 
 freq-position-requires : tie.Need-freq-position-requires
 freq-position-requires c κs = search needs
 
 index-requires : tie.Need-index-requires
-index-requires c κs = (lit≤ tt, subst (Cut 4) (sym (c .freq-position .ensures)) (c .before .before .before .pre .2))
+index-requires c κs = (lit≤ tt, cut (c .before))
 
-add-ratio-of : tie.Need-add-ratio-of
-add-ratio-of c = search needs
+cut-at-requires : tie.Need-cut-at-requires
+cut-at-requires c κs = search needs
 
-mul-ratio-of : tie.Need-mul-ratio-of
-mul-ratio-of c = search needs
-
-array-read-ratio-of : tie.Need-array-read-ratio-of
-array-read-ratio-of c = search needs
-
-mul-ratio-of-2 : tie.Need-mul-ratio-of-2
-mul-ratio-of-2 c = search needs
-
-array-read-ratio-of-2 : tie.Need-array-read-ratio-of-2
-array-read-ratio-of-2 c = search needs
-
-ratio-of-requires : tie.Need-ratio-of-requires
-ratio-of-requires c κs = search needs
-
-weigh-at-requires : tie.Need-weigh-at-requires
-weigh-at-requires c κs =
-    let b = c .before .before .before .before .bands-of .result in (
-      (lit≤ tt, subst (Cut 4) (sym (c .before .before .before .freq-position .ensures)) (c .before .before .before .before .before .before .pre .2)),
-      c .before .ratio-of .ensures ∙ ap (λ (i : ℕ). ratioOf (div binary32 (getD b (i + 1) nan) (getD b i nan))) (c .before .before .index .ensures .0),
-    )
+interpolate-requires : tie.Need-interpolate-requires
+interpolate-requires c κs = subst Stepped (sym (ap (λ (s : Segment). s .fraction) (c .cut-at .ensures))) (stepped 4 _ (cut (c .before .before .before)))
 
 returns : tie.Need-returns
 returns c =
-    let a = c .before .before .before .before .before .before .before .args in
-    let h = c .before .before .before .before .before .before .before .pre in
-    c .weigh-at .ensures
-    ∙ between-at (atOf (c .before .before .before .before .before .bands-of .result)) (bandAt (atOf (a .numbers .now))) 4 _ _
-    (λ i l. c .before .before .before .before .before .bands-of .ensures .each i (subst (λ (n : ℕ). i < n) (sym (h .0)) l)) (h .2) (c .before .before .before .before .freq-position .ensures)
+    let a = c .before .before .before .before .before .before .before .before .args in
+    let h = c .before .before .before .before .before .before .before .before .pre in
+    let b = c .before .before .before .before .before .lay-bands in
+    c .interpolate .ensures
+    ∙ ap (λ (s : Segment). segmentWeight (s .a) (s .b) (s .fraction)) (c .before .cut-at .ensures)
+    ∙ segment-between (b .last .0) 0 _
+    ∙ between-at (bandIn (b .last .0) 0) (bandAt (atOf (a .numbers .now))) 4 _ _ (λ i l. b .ensures .each i (subst (λ (n : ℕ). i < n) (sym (h .0)) l)) (h .2) (c .before .before .before .before .freq-position .ensures)
 
 pub corner-between-spec : {M : Type 1} → statement M
 corner-between-spec =
     tie.close
     (tie.spec
-    bands-of-requires
+    lay-bands-requires
     freq-position-requires
     index-requires
-    add-ratio-of
-    mul-ratio-of
-    array-read-ratio-of
-    mul-ratio-of-2
-    array-read-ratio-of-2
-    ratio-of-requires
-    weigh-at-requires
+    cut-at-requires
+    interpolate-requires
     returns)

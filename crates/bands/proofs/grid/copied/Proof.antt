@@ -5,7 +5,7 @@ use native.Mathlib.Nat.{le-refl, le-of-lt, lt-trans}
 use native.Mathlib.Omega.{arith}
 use lib.ListN.{length}
 use borrow.Author.Needs.{needs}
-use Rattle.bands.specs.Views.{Copied}
+use Rattle.bands.specs.Grids.{Copied}
 use Rattle.bands.proofs.Laid.{put-length}
 use Rattle.bands.proofs.Cells.{place-in, area-le}
 use Rattle.bands.proofs.Mirror.{copied-none, copied-more, copied-all}

@@ -1,14 +1,23 @@
--- `cut_at` is `segmentOf`: the index and the next are in the list, since the position is a `Cut`. Assumes nothing.
-use mathlib.Core.Path.{sym, ap, subst}
-use Prim.Native.Nat.{ℕ, _≤_, _^_}
-use Rattle.bands.specs.Views.{segmentAt}
-use Rattle.bands.proofs.Truncate.{truncates, index-small, in-float}
+-- `cut_at` is `segmentOf`: i is the position's index. Assumes nothing.
+use mathlib.Core.Path.{ap}
+use mathlib.Core.List.{List}
+use Prim.Native.Nat.{ℕ, _+_}
+use native.Mathlib.Omega.{arith}
+use lib.IntN.{pos}
+use lib.Ieee.{Float, binary32, sub, ofInt}
+use Rattle.bands.specs.Bands.{atOf}
+use Rattle.bands.specs.declared.spot.Segment.{Segment}
+use Rattle.bands.proofs.Truncate.{in-float}
 use borrow.Author.Needs.{needs}
 use Rattle.bands.proofs.spot.cut_at.Statement.{statement}
 use Rattle.bands.proofs.spot.cut_at.Tie as tie
 
-truncating-f32-to-u64-requires : tie.Need-truncating-f32-to-u64-requires
-truncating-f32-to-u64-requires c κs = truncates (c .args .count) (c .args .p) (c .pre .0) (c .pre .1)
+-- by an index that may be any
+abbrev segment : List Float → ℕ → Float → ℕ → Segment
+segment bs from p i = record { a = atOf bs (from + i); b = atOf bs (from + i + 1); fraction = sub binary32 p (ofInt binary32 (pos i)) }
+
+add-at : tie.Need-add-at
+add-at c = search needs
 
 mul-t6 : tie.Need-mul-t6
 mul-t6 c = search needs
@@ -26,16 +35,16 @@ element-copy-out-t14 : tie.Need-element-copy-out-t14
 element-copy-out-t14 c = search needs
 
 int-to-float-t15 : tie.Need-int-to-float-t15
-int-to-float-t15 c = in-float (c .before .before .before .truncating-f32-to-u64 .result) (subst (λ (i : ℕ). i ≤ 2 ^ 24) (sym (c .before .before .before .truncating-f32-to-u64 .ensures)) (index-small (c .before .before .before .before .args .count) (c .before .before .before .before .args .p) (c .before .before .before .before .pre .0) (c .before .before .before .before .pre .1)))
+int-to-float-t15 c = in-float (c .before .before .before .args .i) (omega (arith, c .before .before .before .pre .1))
 
 returns : tie.Need-returns
-returns c = ap (segmentAt (c .before .before .before .before .args .bands .now) (c .before .before .before .before .args .p)) (c .before .before .before .truncating-f32-to-u64 .ensures)
+returns c = let a = c .before .before .before .args in ap (segment (a .bands .now) (a .from) (a .p)) (c .before .before .before .pre .2)
 
 pub cut-at-spec : {M : Type 1} → statement M
 cut-at-spec =
     tie.close
     (tie.spec
-    truncating-f32-to-u64-requires
+    add-at
     mul-t6
     element-copy-out-t9
     add-t10

@@ -1,8 +1,9 @@
 -- `three::rows` meets its contract: of each chain what is left of n gives the product of the definition (`Left`). Assumes nothing.
-use Prim.Native.Nat.{ℕ, _+_, _^_, _≤_, _<_}
+use mathlib.Core.Path.{refl}
+use Prim.Native.Nat.{ℕ, _+_, _*_, _^_, _≤_, _<_}
 use native.Mathlib.Nat.{le-of-lt, lt-of-lt-of-le}
 use native.Mathlib.Omega.{arith}
-use lib.ListN.{getD}
+use lib.ListN.{length, getD}
 use lib.Count.{leadingZeros}
 use lib.Pow.{pow-pos}
 use Rattle.bands.specs.Views.{Links, Starts}
@@ -12,10 +13,10 @@ use Rattle.bands.proofs.three.rows.Statement.{statement}
 use Rattle.bands.proofs.three.rows.Tie as tie
 
 abbrev Inv-loop : tie.InvT-loop
-Inv-loop r0 r1 r2 at n a₀ b₀ c₀ left₀ a b c left = Left (getD r0 at 0) n a₀ a left × Left (getD r1 at 0) n b₀ b left × Left (getD r2 at 0) n c₀ c left
+Inv-loop t at0 at1 at2 n a₀ b₀ c₀ left₀ a b c left = Left (getD t at0 0) n a₀ a left × Left (getD t at1 0) n b₀ b left × Left (getD t at2 0) n c₀ c left
 
 abbrev μ-loop : tie.MeasureT-loop
-μ-loop r0 r1 r2 at n a₀ b₀ c₀ left₀ a b c left = left
+μ-loop t at0 at1 at2 n a₀ b₀ c₀ left₀ a b c left = left
 
 few : (d : tie.In-loop Inv-loop μ-loop) → leadingZeros 32 (d .before .loop .left) < 32
 few d = left-few _ _ _ _ _ (d .before .loop .inv .0) (d .loop-test .taken)
@@ -26,41 +27,47 @@ start-pos y s = lt-of-lt-of-le (pow-pos 30) (s .0)
 loop-holds : tie.Need-loop-holds Inv-loop μ-loop
 loop-holds c = let N = c .fits .n .fits in (left-all _ _ _ N, left-all _ _ _ N, left-all _ _ _ N)
 
-add-k : tie.Need-add-k Inv-loop μ-loop
-add-k c = omega (arith, c .before .before .pre .0 .0)
-
 cast-k : tie.Need-cast-k Inv-loop μ-loop
 cast-k c = omega (arith, few c)
 
-add-k-2 : tie.Need-add-k-2 Inv-loop μ-loop
-add-k-2 c = omega (arith, few c, c .before .before .pre .0 .0)
+add-k : tie.Need-add-k Inv-loop μ-loop
+add-k c = omega (arith, few c)
+
+add-a : tie.Need-add-a Inv-loop μ-loop
+add-a c = let d = c in omega (arith, few d, d .before .before .pre .0 .0 .inside, d .before .before .good .0)
 
 mul-a : tie.Need-mul-a Inv-loop μ-loop
-mul-a c = omega (arith, few c, c .before .before .pre .0 .0)
+mul-a c = let d = c in omega (arith, few d, d .before .before .pre .0 .0 .inside, d .before .before .good .0)
 
 shared-slice-read-a : tie.Need-shared-slice-read-a Inv-loop μ-loop
-shared-slice-read-a c = let d = c .before in link-inside (d .before .before .args .r0 .now) (d .before .before .args .at) _ _ _ _ (d .before .before .pre .0 .1) (d .before .loop .inv .0) (d .loop-test .taken)
+shared-slice-read-a c = let d = c .before in link-inside (d .before .before .args .t .now) (d .before .before .args .at0) _ _ _ _ _ refl (d .before .before .pre .0 .0) (d .before .loop .inv .0) (d .loop-test .taken)
 
 mul-a-2 : tie.Need-mul-a-2 Inv-loop μ-loop
-mul-a-2 c = let d = c .before in record { fits = link-fits (d .before .before .args .r0 .now) (d .before .before .args .at) _ _ _ _ (d .before .before .pre .0 .1) (d .before .loop .inv .0) (d .loop-test .taken) (start-pos _ (d .before .before .pre .1 .0)) (le-of-lt (d .before .before .pre .1 .0 .1)) (d .before .before .fits .n .fits) }
+mul-a-2 c = let d = c .before in record { fits = link-fits (d .before .before .args .t .now) (d .before .before .args .at0) _ _ _ _ _ refl (d .before .before .pre .0 .0) (d .before .loop .inv .0) (d .loop-test .taken) (start-pos _ (d .before .before .pre .1 .0)) (le-of-lt (d .before .before .pre .1 .0 .1)) (d .before .before .fits .n .fits) }
+
+add-b : tie.Need-add-b Inv-loop μ-loop
+add-b c = let d = c .before in omega (arith, few d, d .before .before .pre .0 .1 .inside, d .before .before .good .0)
 
 mul-b : tie.Need-mul-b Inv-loop μ-loop
-mul-b c = omega (arith, few (c .before), c .before .before .before .pre .0 .0)
+mul-b c = let d = c .before in omega (arith, few d, d .before .before .pre .0 .1 .inside, d .before .before .good .0)
 
 shared-slice-read-b : tie.Need-shared-slice-read-b Inv-loop μ-loop
-shared-slice-read-b c = let d = c .before .before in link-inside (d .before .before .args .r1 .now) (d .before .before .args .at) _ _ _ _ (d .before .before .pre .0 .2) (d .before .loop .inv .1) (d .loop-test .taken)
+shared-slice-read-b c = let d = c .before .before in link-inside (d .before .before .args .t .now) (d .before .before .args .at1) _ _ _ _ _ refl (d .before .before .pre .0 .1) (d .before .loop .inv .1) (d .loop-test .taken)
 
 mul-b-2 : tie.Need-mul-b-2 Inv-loop μ-loop
-mul-b-2 c = let d = c .before .before in record { fits = link-fits (d .before .before .args .r1 .now) (d .before .before .args .at) _ _ _ _ (d .before .before .pre .0 .2) (d .before .loop .inv .1) (d .loop-test .taken) (start-pos _ (d .before .before .pre .1 .1)) (le-of-lt (d .before .before .pre .1 .1 .1)) (d .before .before .fits .n .fits) }
+mul-b-2 c = let d = c .before .before in record { fits = link-fits (d .before .before .args .t .now) (d .before .before .args .at1) _ _ _ _ _ refl (d .before .before .pre .0 .1) (d .before .loop .inv .1) (d .loop-test .taken) (start-pos _ (d .before .before .pre .1 .1)) (le-of-lt (d .before .before .pre .1 .1 .1)) (d .before .before .fits .n .fits) }
+
+add-c : tie.Need-add-c Inv-loop μ-loop
+add-c c = let d = c .before .before in omega (arith, few d, d .before .before .pre .0 .2 .inside, d .before .before .good .0)
 
 mul-c : tie.Need-mul-c Inv-loop μ-loop
-mul-c c = omega (arith, few (c .before .before), c .before .before .before .before .pre .0 .0)
+mul-c c = let d = c .before .before in omega (arith, few d, d .before .before .pre .0 .2 .inside, d .before .before .good .0)
 
 shared-slice-read-c : tie.Need-shared-slice-read-c Inv-loop μ-loop
-shared-slice-read-c c = let d = c .before .before .before in link-inside (d .before .before .args .r2 .now) (d .before .before .args .at) _ _ _ _ (d .before .before .pre .0 .3) (d .before .loop .inv .2) (d .loop-test .taken)
+shared-slice-read-c c = let d = c .before .before .before in link-inside (d .before .before .args .t .now) (d .before .before .args .at2) _ _ _ _ _ refl (d .before .before .pre .0 .2) (d .before .loop .inv .2) (d .loop-test .taken)
 
 mul-c-2 : tie.Need-mul-c-2 Inv-loop μ-loop
-mul-c-2 c = let d = c .before .before .before in record { fits = link-fits (d .before .before .args .r2 .now) (d .before .before .args .at) _ _ _ _ (d .before .before .pre .0 .3) (d .before .loop .inv .2) (d .loop-test .taken) (start-pos _ (d .before .before .pre .1 .2)) (le-of-lt (d .before .before .pre .1 .2 .1)) (d .before .before .fits .n .fits) }
+mul-c-2 c = let d = c .before .before .before in record { fits = link-fits (d .before .before .args .t .now) (d .before .before .args .at2) _ _ _ _ _ refl (d .before .before .pre .0 .2) (d .before .loop .inv .2) (d .loop-test .taken) (start-pos _ (d .before .before .pre .1 .2)) (le-of-lt (d .before .before .pre .1 .2 .1)) (d .before .before .fits .n .fits) }
 
 sub-left : tie.Need-sub-left Inv-loop μ-loop
 sub-left c = omega (arith, few (c .before .before .before))
@@ -75,7 +82,7 @@ loop-less : tie.Need-loop-less Inv-loop μ-loop
 loop-less c = left-less _ _ _ _ _ (c .before .before .before .before .loop .inv .0) (c .before .before .before .loop-test .taken)
 
 loop-again : tie.Need-loop-again Inv-loop μ-loop
-loop-again c = let d = c .before .before .before in (link-on (d .before .before .args .r0 .now) (d .before .before .args .at) _ _ _ _ (d .before .before .pre .0 .1) (d .before .loop .inv .0) (d .loop-test .taken), link-on (d .before .before .args .r1 .now) (d .before .before .args .at) _ _ _ _ (d .before .before .pre .0 .2) (d .before .loop .inv .1) (d .loop-test .taken), link-on (d .before .before .args .r2 .now) (d .before .before .args .at) _ _ _ _ (d .before .before .pre .0 .3) (d .before .loop .inv .2) (d .loop-test .taken))
+loop-again c = let d = c .before .before .before in (link-on (d .before .before .args .t .now) (d .before .before .args .at0) _ _ _ _ _ refl (d .before .before .pre .0 .0) (d .before .loop .inv .0) (d .loop-test .taken), link-on (d .before .before .args .t .now) (d .before .before .args .at1) _ _ _ _ _ refl (d .before .before .pre .0 .1) (d .before .loop .inv .1) (d .loop-test .taken), link-on (d .before .before .args .t .now) (d .before .before .args .at2) _ _ _ _ _ refl (d .before .before .pre .0 .2) (d .before .loop .inv .2) (d .loop-test .taken))
 
 returns : tie.Need-returns Inv-loop μ-loop
 returns c = let l = c .loop-test .left in let i = c .before .loop .inv in (left-none _ _ _ _ _ l (i .0), left-none _ _ _ _ _ l (i .1), left-none _ _ _ _ _ l (i .2))
@@ -87,15 +94,17 @@ rows-spec =
     Inv-loop
     μ-loop
     loop-holds
-    add-k
     cast-k
-    add-k-2
+    add-k
+    add-a
     mul-a
     shared-slice-read-a
     mul-a-2
+    add-b
     mul-b
     shared-slice-read-b
     mul-b-2
+    add-c
     mul-c
     shared-slice-read-c
     mul-c-2
