@@ -51,6 +51,17 @@ fn guess(x: u64) -> u64 {
     0
 }
 
+// The same near 2^62, where all but the first ten roots of a chain lie: two terms of the series, no float.
+fn near_top(x: u64) -> u64 {
+    if x >= 4611686018427387904 {
+        let d = (x - 4611686018427387904) >> 31;
+        if d < 4194304 {
+            return 2147483648 + ((d * (8589934592 - d)) >> 34);
+        }
+    }
+    guess(x)
+}
+
 // r, or one more where the square of that is not too large: a guess from below is at most one off. Nothing is promised.
 fn up(r: u64, x: u64) -> u64 {
     if r < 4294967295 {
@@ -67,7 +78,7 @@ fn up(r: u64, x: u64) -> u64 {
 pub fn whole_root(x: u64) -> u64
     ensures { λ r. ⌜ r ≡ wholeRoot x ⌝ }
 {
-    let r = up(guess(x), x);
+    let r = up(near_top(x), x);
     if r < 4294967296 {
         let square = r * r;
         if square <= x {

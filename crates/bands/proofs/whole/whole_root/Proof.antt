@@ -7,8 +7,8 @@ use Rattle.bands.proofs.Roots.{root-unique, whole-is, sq-suc, square-sm
 use Rattle.bands.proofs.whole.whole_root.Statement.{statement}
 use Rattle.bands.proofs.whole.whole_root.Tie as tie
 
-guess-requires : tie.Need-guess-requires
-guess-requires c κs = search needs
+near-top-requires : tie.Need-near-top-requires
+near-top-requires c κs = search needs
 
 up-requires : tie.Need-up-requires
 up-requires c κs = search needs
@@ -33,4 +33,4 @@ returns-2 c = search needs
 
 pub whole-root-spec : {M : Type 1} → statement M
 whole-root-spec =
-    tie.close (tie.spec guess-requires up-requires mul-square add-if3 returns root-digits-requires returns-2)
+    tie.close (tie.spec near-top-requires up-requires mul-square add-if3 returns root-digits-requires returns-2)
