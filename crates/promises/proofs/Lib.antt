@@ -4,3 +4,4 @@ pub mod RowNumbers
 pub mod RowRatios
 pub mod Accepts
 pub mod RawOnes
+pub mod PowerBetween
