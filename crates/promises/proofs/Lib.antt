@@ -5,3 +5,5 @@ pub mod RowRatios
 pub mod Accepts
 pub mod RawOnes
 pub mod PowerBetween
+pub mod WeightBetween
+pub mod Tame
