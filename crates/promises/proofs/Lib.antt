@@ -7,3 +7,4 @@ pub mod RawOnes
 pub mod PowerBetween
 pub mod WeightBetween
 pub mod Tame
+pub mod DefaultsAccepted
