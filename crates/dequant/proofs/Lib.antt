@@ -9,4 +9,5 @@ pub mod Shows
 pub mod Differ
 pub mod Numbers
 pub mod JpegPart
+pub mod FirstWeight
 pub mod Table

@@ -75,14 +75,14 @@ alone k row zs h l m ok =
 
 -- ---- a set
 -- where all of 0, .., n - 1 pass, none fails
-before-every : (ok : ℕ → Bool) (n : ℕ) → ((k : ℕ) → k < n → ok k ≡ true) → before ok n ≡ n
+pub before-every : (ok : ℕ → Bool) (n : ℕ) → ((k : ℕ) → k < n → ok k ≡ true) → before ok n ≡ n
 unfolding before
 before-every ok zero f = refl
 before-every ok (suc n) f =
     ap (λ (b : Bool). cond (b && ok n) (suc n) (before ok n)) (eq-eqb (before ok n) n (before-every ok n (λ k h. f k (lt-of-lt-of-le h (le-suc n)))))
     ∙ ap (λ (b : Bool). cond b (suc n) (before ok n)) (f n (lt-suc-self n))
 
-kinds-done : (rows : List ℕ) (zs : List ℤ) (n : ℕ) → ((k : ℕ) → k < n → kindAnswer (rowAt rows k) (part k zs) k ≡ Done) → kindsAnswer rows zs n ≡ Done
+pub kinds-done : (rows : List ℕ) (zs : List ℤ) (n : ℕ) → ((k : ℕ) → k < n → kindAnswer (rowAt rows k) (part k zs) k ≡ Done) → kindsAnswer rows zs n ≡ Done
 unfolding kindsAnswer
 kinds-done rows zs zero f = refl
 kinds-done rows zs (suc n) f =

@@ -12,3 +12,7 @@ pub mod Readable
 pub mod RowRule
 pub mod RowTheorem
 pub mod Shape
+pub mod PowerBetween
+pub mod WeightBetween
+pub mod Tame
+pub mod DefaultsAccepted

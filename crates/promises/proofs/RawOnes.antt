@@ -39,7 +39,7 @@ many-length (suc n) row l = length-append row (many n row) ∙ ap (λ (a : ℕ).
     sum : (n : ℕ) → 128 + n * 128 ≡ suc n * 128
     sum n = omega arith
 
-drop-more : (a b : ℕ) (l : List ℕ) → drop (a + b) l ≡ drop b (drop a l)
+pub drop-more : (a b : ℕ) (l : List ℕ) → drop (a + b) l ≡ drop b (drop a l)
 drop-more zero b l = ap (λ (n : ℕ). drop n l) (native.Mathlib.Nat.zero-add b)
 drop-more (suc a) b [] = ap (λ (n : ℕ). drop n []) (native.Mathlib.Nat.suc-add a b) ∙ sym (lib.Seq.drop-nil b)
 drop-more (suc a) b (x ∷ l) = ap (λ (n : ℕ). drop n (x ∷ l)) (native.Mathlib.Nat.suc-add a b) ∙ drop-more a b l

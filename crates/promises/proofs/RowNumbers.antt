@@ -98,7 +98,7 @@ within-123 m c d h e f =
     room x c d a b p q r = omega arith
 
 -- number j of list l
-place : (n : Numbers) (l j : ℕ) → 3 * each (n .mode) + 3 * n .first + 3 * n .second ≤ 123 → j < 3 * count n l → begins n l + j < 123
+pub place : (n : Numbers) (l j : ℕ) → 3 * each (n .mode) + 3 * n .first + 3 * n .second ≤ 123 → j < 3 * count n l → begins n l + j < 123
 place n zero j h g = room (each (n .mode)) (n .first) (n .second) j h g
   where
     room : (x c d j : ℕ) → 3 * x + 3 * c + 3 * d ≤ 123 → j < 3 * c → 3 * x + j < 123
@@ -112,7 +112,7 @@ place n (suc l) j h g = room (each (n .mode)) (n .first) (n .second) j h g
 abbrev pub listNumber : Numbers → ℕ → ℕ → ℕ → Float
 listNumber n l c = atOf (channelOf (listOf n l) (count n l) c)
 
-inside : (c i m : ℕ) → c < 3 → i < m → c * m + i < 3 * m
+pub inside : (c i m : ℕ) → c < 3 → i < m → c * m + i < 3 * m
 inside c i m h g = le-trans (lower (c * m) i m g) (top c m h)
   where
     lower : (a i m : ℕ) → i < m → a + i < a + m
@@ -121,7 +121,7 @@ inside c i m h g = le-trans (lower (c * m) i m g) (top c m h)
     top : (c m : ℕ) → c < 3 → c * m + m ≤ 3 * m
     top c m h = omega (arith, mul-le-mul-right m (le-of-suc-le-suc h))
 
-at-place : (n : Numbers) (l c i : ℕ) → c < 3 → i < count n l → listNumber n l c i ≡ bandNumber n l (c * count n l + i)
+pub at-place : (n : Numbers) (l c i : ℕ) → c < 3 → i < count n l → listNumber n l c i ≡ bandNumber n l (c * count n l + i)
 unfolding listOf
 at-place n l c i h g =
     getD-take (count n l) (drop (c * count n l) (listOf n l)) i nan g
@@ -217,7 +217,7 @@ read-own row fine room e c h i g =
     subst (λ (x : Float). T (owns i x)) (sym (read-number row fine room c (5 + i) e h (omega arith))) (own-half i (getD row (3 + (c * 9 + (5 + i))) 0) (fine (c * 9 + (5 + i))))
 
 -- ---- by default: one computed test over the table of defaults
-defaults-room : (k : ℕ) → k < 17 → 3 * each (defaultMode k) + 3 * defaultFirst k + 3 * defaultSecond k ≤ 123
+pub defaults-room : (k : ℕ) → k < 17 → 3 * each (defaultMode k) + 3 * defaultFirst k + 3 * defaultSecond k ≤ 123
 defaults-room k h = leb→le (3 * each (defaultMode k) + 3 * defaultFirst k + 3 * defaultSecond k) 123 (at (λ k. leb (3 * each (defaultMode k) + 3 * defaultFirst k + 3 * defaultSecond k) 123) 17 tt k h)
 
 abbrev listTest : ℕ → ℕ → Bool

@@ -1,0 +1,295 @@
+-- The default of every kind is accepted, alone and as a set: by the law of tame numbers, with the bands of the defaults tested by computation. Assumes nothing.
+use mathlib.Core.Path.{_≡_, refl, sym, ap, _∙_, subst}
+use mathlib.Core.Bool.{Bool, true, false, cond, not, _&&_, _||_, true≢false}
+use mathlib.Core.List.{List, [], _∷_, _++_}
+use Prim.Native.Nat.{ℕ, zero, suc, _+_, _-_, _*_, _^_, _≤_, _<_}
+use native.Mathlib.Nat.{le-refl, le-trans, le-of-eq, le-suc, lt-of-lt-of-le, le-of-suc-le-suc, not-suc-le-zero, mul-comm, mul-assoc, mul-right-comm, mul-le-mul, mul-le-mul-right, le-of-mul-le-mul-right}
+use native.Mathlib.Omega.{arith}
+use borrow.Author.Tests.{eq-eqb, ne-eqb, lt-leb, le-leb, leb-true}
+use lib.Dec.{T, leb, ltb, eqb, leb→le, lit<, lit≤}
+use lib.IntN.{ℤ, pos}
+use lib.ListN.{length, getD, take, drop, replicate, length-append}
+use lib.Seq.{take-at, drop-at}
+use lib.Pow.{pow-pos}
+use lib.Ieee.{Float, nan, binary32, fits, round, neg, mul, add, sub, div, lt}
+use lib.Ieee.Exact.{HasValue}
+use lib.Ieee.Fits.{and-l, and-r}
+use lib.Ieee.Positive.{num, den, den-pos, positive, positive-finite, value→cross}
+use Rattle.transform.proofs.Laws.{below, at}
+use Rattle.bands.specs.Bands.{atOf, bandAt, multOf}
+use Rattle.bands.proofs.TableLaws.{getD-tab}
+use Rattle.bands.proofs.WholeUnits.{whole-number, plain}
+use Rattle.bands.proofs.Ranged.{Banded}
+use Rattle.matrix.specs.Defaults.{defaults, defaultMode, defaultFirst, defaultSecond}
+use Rattle.matrix.specs.Numbers.{each, readNumbers, defaultNumbers, defaultValue, numbersOf, numberOf, count, begins, bandNumber}
+use Rattle.transform.specs.First.{before}
+use Rattle.transform.specs.Kinds.{placesOf}
+use Rattle.params.specs.Allowed.{rowAt, modeAt, rowAllowed, entryRow, flagRow, flagFault, rowFault}
+use Rattle.params.proofs.FaultLaws.{allowed-entry}
+use Rattle.matrix.specs.declared.numbers.Numbers.{Numbers}
+use Rattle.matrix.specs.declared.Expanded.the-variants.{Done}
+use Rattle.matrix.specs.Expanded.{replyOf, kindAnswer, expandAnswer}
+use Rattle.matrix.specs.Views.{Shaped}
+use Rattle.matrix.proofs.Lending.{by-samples}
+use Rattle.matrix.proofs.Meaning.{default-shaped}
+use Rattle.matrix.proofs.Said.{says-kind}
+use Rattle.dequant.specs.Set.{part, anyRaw, setLent, expandSet}
+use Rattle.dequant.proofs.Lent.{no-samples, says-kinds}
+use Rattle.dequant.proofs.Lent.{by-samples as set-by-samples}
+use Rattle.dequant.proofs.Kindwise.{mode-at}
+use Rattle.promises.proofs.Accepts.{before-every, kinds-done}
+use Rattle.promises.proofs.RawOnes.{many, many-length, many-row, drop-more}
+use Rattle.promises.proofs.RowNumbers.{listNumber, ownList, at-place, place, inside, defaults-room}
+use Rattle.promises.proofs.Tame.{used, Tame, tame-accepts}
+
+-- ---- the test: an f32 from 2 ^ -24 to 2 ^ 40; and one from 1/2 to 2
+abbrev spans : ℕ → ℕ → Float → Bool
+spans K H x = (fits binary32 x && positive x) && (leb (den x) (num x * K) && leb (num x) (H * den x))
+
+first-low : (u d g L K : ℕ) → 0 < d → u * (K * L) ≡ g * d → d ≤ u * K → L ≤ g
+first-low u d g L K D e h = le-of-mul-le-mul-right {k = d} (le-trans (le-of-eq (mul-comm L d)) (le-trans (mul-le-mul-right L h) (le-of-eq (mul-assoc u K L ∙ e)))) D
+
+first-high : (u d g L K : ℕ) → 0 < d → u * L ≡ g * d → u ≤ K * d → g ≤ K * L
+first-high u d g L K D e h = le-of-mul-le-mul-right {k = d} (le-trans (le-of-eq (sym e)) (le-trans (mul-le-mul-right L h) (le-of-eq (mul-right-comm K d L)))) D
+
+spans-banded : (K H lo : ℕ) (x : Float) → K * lo ≡ 2 ^ 149 → T (spans K H x) → Banded lo (H * 2 ^ 149) x
+spans-banded K H lo x e t =
+    let a = fits binary32 x && positive x in
+    let b = leb (den x) (num x * K) in
+    let c = leb (num x) (H * den x) in
+    let t1 : T (fits binary32 x && positive x) = and-l (fits binary32 x && positive x) (leb (den x) (num x * K) && leb (num x) (H * den x)) t in
+    let t2 : T (leb (den x) (num x * K) && leb (num x) (H * den x)) = and-r (fits binary32 x && positive x) (leb (den x) (num x * K) && leb (num x) (H * den x)) t in
+    let p : T (positive x) = and-r (fits binary32 x) (positive x) t1 in
+    let w = whole-number x (and-l (fits binary32 x) (positive x) t1) (positive-finite x p) in
+    let v : HasValue x false (w .g) (2 ^ 149) = plain x (w .sign) (w .g) (2 ^ 149) p (w .value) in
+    let z : num x * 2 ^ 149 ≡ w .g * den x = value→cross x (w .g) (2 ^ 149) v in
+    record {
+      at = w .g;
+      value = v;
+      most = first-high (num x) (den x) (w .g) (2 ^ 149) H (den-pos x) z (leb→le (num x) (H * den x) (and-r (leb (den x) (num x * K)) (leb (num x) (H * den x)) t2));
+      least = first-low (num x) (den x) (w .g) lo K (den-pos x) (ap (λ (y : ℕ). num x * y) e ∙ z) (leb→le (den x) (num x * K) (and-l (leb (den x) (num x * K)) (leb (num x) (H * den x)) t2));
+    }
+
+abbrev fairTest : Float → Bool
+fairTest x = spans (2 ^ 24) (2 ^ 40) x
+
+abbrev divisorTest : Float → Bool
+divisorTest x = spans 2 2 x
+
+fair-banded : (x : Float) → T (fairTest x) → Banded (2 ^ 125) (2 ^ 189) x
+fair-banded x t = spans-banded (2 ^ 24) (2 ^ 40) (2 ^ 125) x refl t
+
+divisor-banded : (x : Float) → T (divisorTest x) → Banded (2 ^ 148) (2 ^ 150) x
+divisor-banded x t = spans-banded 2 2 (2 ^ 148) x refl t
+
+-- ---- by computation, over the table of defaults
+abbrev listValue : ℕ → ℕ → ℕ → ℕ → Float
+listValue k l c i = defaultValue k (begins (defaultNumbers k) l + (c * count (defaultNumbers k) l + i))
+
+abbrev bandTest : ℕ → ℕ → Bool
+bandTest k l = below (λ c. below (λ i. fairTest (bandAt (listValue k l c) i)) (count (defaultNumbers k) l)) 3
+
+bands-tested : T (below (λ k. bandTest k 0 && bandTest k 1) 17)
+unfolding defaultValue bandAt multOf fits mul div add sub lt
+bands-tested = tt
+
+abbrev numberTest : ℕ → Bool
+numberTest k = below (λ c. below (λ i. fairTest (defaultValue k (c * each (defaultMode k) + i))) (used (defaultMode k))) 3
+
+numbers-tested : T (below numberTest 17)
+unfolding defaultValue fits
+numbers-tested = tt
+
+abbrev divisors : ℕ → Bool
+divisors m = leb 3 m && leb m 4
+
+abbrev divisorsTest : ℕ → Bool
+divisorsTest k = below (λ c. below (λ i. divisorTest (defaultValue k (c * each (defaultMode k) + i))) (used (defaultMode k))) 3
+
+divisors-tested : T (below (λ k. not (divisors (defaultMode k)) || divisorsTest k) 17)
+unfolding defaultValue fits
+divisors-tested = tt
+
+abbrev ownValues : ℕ → ℕ → List Float
+ownValues k c = defaultValue k (c * 9 + 5) ∷ defaultValue k (c * 9 + 6) ∷ defaultValue k (c * 9 + 7) ∷ defaultValue k (c * 9 + 8) ∷ []
+
+abbrev ownTest : ℕ → Bool
+ownTest k = below (λ c. below (λ i. fairTest (bandAt (atOf (ownValues k c)) i)) 4) 3
+
+own-tested : T (below (λ k. not (eqb (defaultMode k) 5) || ownTest k) 17)
+unfolding defaultValue bandAt multOf fits mul div add sub lt
+own-tested = tt
+
+-- ---- so the defaults are tame
+or-right : (a b : Bool) → T (not a || b) → a ≡ true → T b
+or-right true b t e = t
+or-right false b t e = absurd (true≢false (sym e))
+
+band-same : (f g : ℕ → Float) (i : ℕ) → ((j : ℕ) → j ≤ i → f j ≡ g j) → bandAt f i ≡ bandAt g i
+unfolding bandAt
+band-same f g zero h = h 0 (le-refl 0)
+band-same f g (suc i) h =
+    ap (λ (x : Float). mul binary32 x (multOf (f (suc i)))) (band-same f g i (λ j l. h j (le-trans l (le-suc i))))
+    ∙ ap (λ (x : Float). mul binary32 (bandAt g i) (multOf x)) (h (suc i) (le-refl (suc i)))
+
+module _ (k : ℕ) (named : k < 17) where
+  list-value : (l c i : ℕ) → c < 3 → i < count (defaultNumbers k) l → listNumber (defaultNumbers k) l c i ≡ listValue k l c i
+  unfolding bandNumber
+  list-value l c i h g =
+      at-place (defaultNumbers k) l c i h g
+      ∙ getD-tab 123 (defaultValue k) (begins (defaultNumbers k) l + (c * count (defaultNumbers k) l + i)) nan
+      (place (defaultNumbers k) l (c * count (defaultNumbers k) l + i) (defaults-room k named) (inside c i (count (defaultNumbers k) l) h g))
+
+  list-tested : (l : ℕ) → T (bandTest k l)
+  list-tested zero = and-l (bandTest k 0) (bandTest k 1) (at (λ k. bandTest k 0 && bandTest k 1) 17 bands-tested k named)
+  list-tested (suc l) = and-r (bandTest k 0) (bandTest k 1) (at (λ k. bandTest k 0 && bandTest k 1) 17 bands-tested k named)
+
+  bands-fair : (l c i : ℕ) → c < 3 → i < count (defaultNumbers k) l → Banded (2 ^ 125) (2 ^ 189) (bandAt (listNumber (defaultNumbers k) l c) i)
+  bands-fair l c i h g =
+      subst (Banded (2 ^ 125) (2 ^ 189)) (sym (band-same (listNumber (defaultNumbers k) l c) (listValue k l c) i (λ j z. list-value l c j h (native.Mathlib.Nat.lt-of-le-of-lt z g))))
+      (fair-banded (bandAt (listValue k l c) i)
+      (at (λ i. fairTest (bandAt (listValue k l c) i)) (count (defaultNumbers k) l) (at (λ c. below (λ i. fairTest (bandAt (listValue k l c) i)) (count (defaultNumbers k) l)) 3 (list-tested l) c h) i g))
+
+  few-each : each (defaultMode k) ≤ 9
+  few-each = leb→le (each (defaultMode k)) 9 (at (λ k. leb (each (defaultMode k)) 9) 17 tt k named)
+
+  few-used : used (defaultMode k) ≤ 9
+  few-used = leb→le (used (defaultMode k)) 9 (at (λ k. leb (used (defaultMode k)) 9) 17 tt k named)
+
+  number-value : (c i : ℕ) → c < 3 → i < 9 → numberOf (defaultNumbers k) c i ≡ defaultValue k (c * each (defaultMode k) + i)
+  unfolding numberOf
+  number-value c i h g = getD-tab 123 (defaultValue k) (c * each (defaultMode k) + i) nan (room (c * each (defaultMode k)) i (mul-le-mul {n₂ = 2} {m₂ = 9} (le-of-suc-le-suc h) few-each) g)
+    where
+      room : (a i : ℕ) → a ≤ 18 → i < 9 → a + i < 123
+      room a i h g = omega arith
+
+  numbers-fair : (c i : ℕ) → c < 3 → i < used (defaultMode k) → Banded (2 ^ 125) (2 ^ 189) (numberOf (defaultNumbers k) c i)
+  numbers-fair c i h g =
+      subst (Banded (2 ^ 125) (2 ^ 189)) (sym (number-value c i h (lt-of-lt-of-le g few-used)))
+      (fair-banded (defaultValue k (c * each (defaultMode k) + i))
+      (at (λ i. fairTest (defaultValue k (c * each (defaultMode k) + i))) (used (defaultMode k))
+      (at (λ c. below (λ i. fairTest (defaultValue k (c * each (defaultMode k) + i))) (used (defaultMode k))) 3 (at numberTest 17 numbers-tested k named) c h) i g))
+
+  divisors-fair : 3 ≤ defaultMode k → defaultMode k ≤ 4 → (c i : ℕ) → c < 3 → i < used (defaultMode k) → Banded (2 ^ 148) (2 ^ 150) (numberOf (defaultNumbers k) c i)
+  divisors-fair a b c i h g =
+      subst (Banded (2 ^ 148) (2 ^ 150)) (sym (number-value c i h (lt-of-lt-of-le g few-used)))
+      (divisor-banded (defaultValue k (c * each (defaultMode k) + i))
+      (at (λ i. divisorTest (defaultValue k (c * each (defaultMode k) + i))) (used (defaultMode k))
+      (at (λ c. below (λ i. divisorTest (defaultValue k (c * each (defaultMode k) + i))) (used (defaultMode k))) 3
+      (or-right (divisors (defaultMode k)) (divisorsTest k) (at (λ k. not (divisors (defaultMode k)) || divisorsTest k) 17 divisors-tested k named)
+      (ap (λ (t : Bool). t && leb (defaultMode k) 4) (le-leb 3 (defaultMode k) a) ∙ le-leb (defaultMode k) 4 b)) c h) i g))
+
+  own-values : defaultMode k ≡ 5 → (c : ℕ) → c < 3 → ownList (defaultNumbers k) c ≡ ownValues k c
+  own-values e c h =
+      ap (λ (x : Float). x ∷ numberOf (defaultNumbers k) c 6 ∷ numberOf (defaultNumbers k) c 7 ∷ numberOf (defaultNumbers k) c 8 ∷ []) (value 5 (lit< tt))
+      ∙ ap (λ (x : Float). defaultValue k (c * 9 + 5) ∷ x ∷ numberOf (defaultNumbers k) c 7 ∷ numberOf (defaultNumbers k) c 8 ∷ []) (value 6 (lit< tt))
+      ∙ ap (λ (x : Float). defaultValue k (c * 9 + 5) ∷ defaultValue k (c * 9 + 6) ∷ x ∷ numberOf (defaultNumbers k) c 8 ∷ []) (value 7 (lit< tt))
+      ∙ ap (λ (x : Float). defaultValue k (c * 9 + 5) ∷ defaultValue k (c * 9 + 6) ∷ defaultValue k (c * 9 + 7) ∷ x ∷ []) (value 8 (lit< tt))
+    where
+      value : (i : ℕ) → i < 9 → numberOf (defaultNumbers k) c i ≡ defaultValue k (c * 9 + i)
+      value i g = number-value c i h g ∙ ap (λ (m : ℕ). defaultValue k (c * each m + i)) e
+
+  own-fair : defaultMode k ≡ 5 → (c i : ℕ) → c < 3 → i < 4 → Banded (2 ^ 125) (2 ^ 189) (bandAt (atOf (ownList (defaultNumbers k) c)) i)
+  own-fair e c i h g =
+      subst (λ (l : List Float). Banded (2 ^ 125) (2 ^ 189) (bandAt (atOf l) i)) (sym (own-values e c h))
+      (fair-banded (bandAt (atOf (ownValues k c)) i)
+      (at (λ i. fairTest (bandAt (atOf (ownValues k c)) i)) 4
+      (at (λ c. below (λ i. fairTest (bandAt (atOf (ownValues k c)) i)) 4) 3
+      (or-right (eqb (defaultMode k) 5) (ownTest k) (at (λ k. not (eqb (defaultMode k) 5) || ownTest k) 17 own-tested k named) (eq-eqb (defaultMode k) 5 e)) c h) i g))
+
+  pub default-tame : Tame (defaultNumbers k)
+  default-tame = record { bands = bands-fair; numbers = numbers-fair; divisors = divisors-fair; own = own-fair }
+
+-- ---- one kind
+default-numbers : (row : List ℕ) (k : ℕ) → getD row 0 0 ≡ 0 → numbersOf row k ≡ defaultNumbers k
+unfolding numbersOf
+default-numbers row k e = ap (λ (m : ℕ). cond (eqb m 0) (defaultNumbers k) (readNumbers row)) e
+
+-- a row of mode 0: BAND and WEIGHT let every kind's default pass, whatever samples are lent
+pub default-accepts : (k : ℕ) (row : List ℕ) (zs : List ℤ) → k < 17 → getD row 0 0 ≡ 0 → kindAnswer row zs k ≡ Done
+default-accepts k row zs h e =
+    tame-accepts k row zs (subst (λ (n : Numbers). Shaped n k) (sym (default-numbers row k e)) (default-shaped k h)) (subst Tame (sym (default-numbers row k e)) (default-tame k h))
+
+abbrev pub zeroRow : List ℕ
+zeroRow = replicate 128 0
+
+zero-allowed : (k : ℕ) → k < 17 → rowAllowed k zeroRow ≡ true
+zero-allowed k h = sym (allowed-entry k zeroRow (le-of-suc-le-suc h) (unfold entryRow in refl))
+
+-- the default of every kind by itself, lent no samples and two outputs of its places, answers DONE
+pub default-done : (k : ℕ) → k < 17 → replyOf (expandAnswer k zeroRow [] (placesOf k) (placesOf k)) ≡ 0 ∷ []
+default-done k h =
+    ap replyOf (sym (says-kind k zeroRow [] (placesOf k) (placesOf k) (sym (by-samples k zeroRow 0 (placesOf k) (placesOf k) (placesOf k) refl true (le-of-suc-le-suc h) refl refl refl (sym (always (eqb 0 (placesOf k)))))) (zero-allowed k h))
+    ∙ default-accepts k zeroRow [] h refl)
+  where
+    always : (b : Bool) → (b || true) ≡ true
+    always true = refl
+    always false = refl
+
+-- ---- a set
+-- any set of rows of mode 0 that passes LENT and ROW is accepted, whatever samples it is lent
+pub default-set : (rows : List ℕ) (zs : List ℤ) (s t : ℕ) → setLent rows (length zs) s t ≡ true → 17 ≤ rowFault rows → ((k : ℕ) → k < 17 → modeAt rows k ≡ 0) → expandSet rows zs s t ≡ Done
+default-set rows zs s t lent ok f = sym (says-kinds rows zs s t lent ok) ∙ kinds-done rows zs 17 (λ k h. default-accepts k (rowAt rows k) (part k zs) h (mode-at rows k ∙ f k h))
+
+-- a first row, and 16 of zeros behind it
+abbrev pub headed : List ℕ → List ℕ
+headed first = first ++ many 16 zeroRow
+
+headed-row : (first : List ℕ) (k : ℕ) → length first ≡ 128 → k < 16 → rowAt (headed first) (suc k) ≡ zeroRow
+headed-row first k l h =
+    ap (take 128) (ap (λ (a : ℕ). drop a (first ++ many 16 zeroRow)) (next k) ∙ drop-more 128 (k * 128) (first ++ many 16 zeroRow) ∙ ap (drop (k * 128)) (drop-at first (many 16 zeroRow) 128 l))
+    ∙ many-row 16 k zeroRow refl h
+  where
+    next : (k : ℕ) → suc k * 128 ≡ 128 + k * 128
+    next k = omega arith
+
+module _ (first : List ℕ) (long : length first ≡ 128) (mode : getD first 0 0 ≡ 0) (fine : rowAllowed 0 first ≡ true) where
+  rows-mode : (k : ℕ) → k < 17 → modeAt (headed first) k ≡ 0
+  rows-mode zero h = sym (mode-at (headed first) 0) ∙ ap (λ (l : List ℕ). getD l 0 0) (take-at first (many 16 zeroRow) 128 long) ∙ mode
+  rows-mode (suc k) h = sym (mode-at (headed first) (suc k)) ∙ ap (λ (l : List ℕ). getD l 0 0) (headed-row first k long (le-of-suc-le-suc h))
+
+  rows-allowed : (k : ℕ) → k < 17 → rowAllowed k (rowAt (headed first) k) ≡ true
+  rows-allowed zero h = ap (rowAllowed 0) (take-at first (many 16 zeroRow) 128 long) ∙ fine
+  rows-allowed (suc k) h = ap (rowAllowed (suc k)) (headed-row first k long (le-of-suc-le-suc h)) ∙ zero-allowed (suc k) h
+
+  rows-length : length (headed first) ≡ 2176
+  rows-length = length-append first (many 16 zeroRow) ∙ ap (λ (a : ℕ). a + length (many 16 zeroRow)) long ∙ ap (λ (a : ℕ). 128 + a) (many-length 16 zeroRow refl)
+
+  modes-every : before (λ kind. eqb (modeAt (headed first) kind) 0) 17 ≡ 17
+  modes-every = before-every (λ kind. eqb (modeAt (headed first) kind) 0) 17 (λ k h. eq-eqb (modeAt (headed first) k) 0 (rows-mode k h))
+
+  no-fault : 17 ≤ rowFault (headed first)
+  unfolding rowFault flagFault
+  no-fault =
+      le-of-eq (sym (ap (λ (n : ℕ). cond (eqb (getD (headed first) 126 0) 1 && ltb n 17) 0 (before (λ kind. rowAllowed kind (rowAt (headed first) kind)) 17)) modes-every
+      ∙ ap (λ (b : Bool). cond b 0 (before (λ kind. rowAllowed kind (rowAt (headed first) kind)) 17)) (and-false (eqb (getD (headed first) 126 0) 1))
+      ∙ before-every (λ kind. rowAllowed kind (rowAt (headed first) kind)) 17 rows-allowed))
+    where
+      and-false : (b : Bool) → (b && false) ≡ false
+      and-false true = refl
+      and-false false = refl
+
+  not-raw-rows : anyRaw (headed first) ≡ false
+  unfolding anyRaw
+  not-raw-rows = ap (λ (n : ℕ). ltb n 17) (before-every (λ k. not (eqb (modeAt (headed first) k) 7)) 17 (λ k h. ap (λ (m : ℕ). not (eqb m 7)) (rows-mode k h)))
+
+  rows-lent : setLent (headed first) 0 394752 394752 ≡ true
+  rows-lent = sym (set-by-samples (headed first) 0 394752 394752 true rows-length refl refl (no-samples (headed first) 0 false (λ z. omega arith) (le-refl 0) (sym not-raw-rows)))
+
+  pub headed-done : replyOf (expandSet (headed first) [] 394752 394752) ≡ 0 ∷ []
+  headed-done = ap replyOf (default-set (headed first) [] 394752 394752 rows-lent no-fault rows-mode)
+
+abbrev pub flaggedRow : List ℕ
+flaggedRow = replicate 126 0 ++ 1 ∷ 0 ∷ []
+
+flag-allowed : rowAllowed 0 flaggedRow ≡ true
+unfolding rowAllowed entryRow flagRow
+flag-allowed = refl
+
+-- the 17 rows all zero, as 17 entries of mode 0 write them, lent no samples and two arenas, answer DONE
+pub zero-set-done : replyOf (expandSet (headed zeroRow) [] 394752 394752) ≡ 0 ∷ []
+zero-set-done = headed-done zeroRow refl refl (zero-allowed 0 (lit< tt))
+
+-- and so do the rows that the flag of an all-default set writes: slot 126 of row 0 is 1, all else 0
+pub flag-set-done : replyOf (expandSet (headed flaggedRow) [] 394752 394752) ≡ 0 ∷ []
+flag-set-done = headed-done flaggedRow refl refl flag-allowed
