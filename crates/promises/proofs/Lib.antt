@@ -16,3 +16,4 @@ pub mod PowerBetween
 pub mod WeightBetween
 pub mod Tame
 pub mod DefaultsAccepted
+pub mod Steps

@@ -19,7 +19,7 @@ use Rattle.bands.specs.Power.{P}
 use Rattle.bands.specs.Weights.{stepsOf, segmentWeight, between, bandWeight}
 use Rattle.bands.specs.Freqs.{freq, freqPosition, interpolated, freqWeight}
 use Rattle.bands.proofs.Ranged.{Banded}
-use Rattle.bands.proofs.Marks.{steps-is}
+use Rattle.promises.proofs.Steps.{steps-is}
 use Rattle.bands.proofs.Freqs.{freq-cut, on-small, weight-is}
 use Rattle.bands.proofs.Asserts.{place-cut}
 use Rattle.promises.proofs.PowerBetween.{Within, Room, segment-within}
