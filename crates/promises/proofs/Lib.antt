@@ -8,3 +8,4 @@ pub mod PowerBetween
 pub mod WeightBetween
 pub mod Tame
 pub mod DefaultsAccepted
+pub mod OnlyJpeg
