@@ -17,3 +17,4 @@ pub mod WeightBetween
 pub mod Tame
 pub mod DefaultsAccepted
 pub mod Steps
+pub mod OnlyJpeg
