@@ -15,7 +15,6 @@ use Rattle.bands.specs.Bands.{atOf}
 use Rattle.bands.specs.Position.{indexOf, fractionOf, Cut}
 use Rattle.bands.specs.Views.{Stepped, bandIn}
 use Rattle.bands.specs.Grids.{Grid, Sized, placeOf}
-use Rattle.bands.proofs.Position.{position-cut}
 use Rattle.bands.specs.Weights.{segmentWeight, between, bandWeight}
 
 pub stepped : (n : ℕ) (p : Float) → Cut n p → Stepped (fractionOf p)
@@ -50,12 +49,7 @@ area-le w h a b = mul-le-mul a b
 pub area-pos : (w h : ℕ) → 2 ≤ w → 2 ≤ h → 0 < w * h
 area-pos w h a b = le-trans (omega arith) (mul-le-mul a b)
 
--- ---- positions
-pub place-cut : (x y n w h : ℕ) → Sized n w h → x < w → y < h → Cut n (placeOf x y n w h)
-place-cut x y n w h s X Y =
-    position-cut x y (w - 1) (h - 1) n (omega arith) (omega (arith, s .wide)) (omega (arith, s .not-wider)) (omega arith) (omega (arith, s .high)) (omega (arith, s .not-higher)) (s .many) (s .few)
-
--- those of a row, up to x
+-- ---- the positions of a row, up to x
 pub record Placing (from y n w h : ℕ) (l : List Float) (x : ℕ) : Type 0 where
   pub long : length l ≡ 256
   pub done : (i : ℕ) → from ≤ i → i < x → getD l i nan ≡ placeOf i y n w h

@@ -16,12 +16,6 @@ pub laid-none : (f : ℕ → ℕ → Float) (area : ℕ) (out : List Float) → 
 laid-none f area out e = record { long = e; each = λ k j h g. absurd (not-suc-le-zero g) }
 
 module _ (l : List Float) (area q : ℕ) (a b c : Float) (fit : q < area) (long : length l ≡ 3 * area) where
-  l1 : List Float
-  l1 = set l q a
-
-  l2 : List Float
-  l2 = set (set l q a) (area + q) b
-
   len1 : length (set l q a) ≡ 3 * area
   len1 = length-set l q a ∙ long
 

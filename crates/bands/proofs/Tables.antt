@@ -1,29 +1,24 @@
--- Chains in a table: how it is filled, what a row of products takes from it, and the power at the end. Assumes nothing.
-use mathlib.Core.Path.{_≡_, refl, sym, ap, ap₂, _∙_, subst}
+-- Chains in a table: how it is filled, what a row of products takes from it, and the power there. Assumes nothing.
+use mathlib.Core.Path.{_≡_, refl, sym, ap, _∙_, subst}
 use mathlib.Core.Logic.{_⊎_, inl, inr}
-use mathlib.Core.Bool.{Bool, true, false, not, cond}
 use mathlib.Core.List.{List}
-use Prim.Native.Nat.{ℕ, zero, suc, _+_, _-_, _*_, _/_, _%_, _^_, _≤_, _<_, zero-le}
-use native.Mathlib.Nat.{zero-add, le-refl, le-trans, le-of-eq, le-of-lt, lt-irrefl, lt-of-lt-of-le, lt-of-le-of-lt, mod-lt, mod-eq-of-lt, mul-add-mod-self-right, mul-le-mul, not-suc-le-zero}
+use Prim.Native.Nat.{ℕ, suc, _+_, _-_, _*_, _/_, _%_, _^_, _≤_, _<_, zero-le}
+use native.Mathlib.Nat.{zero-add, le-trans, le-of-eq, le-of-lt, lt-irrefl, lt-of-lt-of-le, lt-of-le-of-lt, mod-eq-of-lt, mul-add-mod-self-right, mul-le-mul, not-suc-le-zero}
 use native.Mathlib.Numerals.{add-one}
 use native.Mathlib.Omega.{arith}
-use lib.Dec.{T, eqb, lit≤, lit<}
-use lib.Pow.{pow-pos}
+use lib.Dec.{lit≤, lit<}
 use lib.ListN.{length, getD, set, length-set}
 use lib.Seq.{getD-set-same, getD-set-other}
 use lib.Count.{leadingZeros}
-use lib.Ieee.{Float, nan, binary32, round, toBits}
-use borrow.Author.Tests.{ne-eqb}
+use lib.Ieee.{Float}
 use Rattle.bands.specs.Root.{wholeRoot}
 use Rattle.bands.specs.Bands.{atOf}
-use Rattle.bands.specs.Power.{chain, products, field, scaled, normal, turns, mantissa, powerOf, P}
+use Rattle.bands.specs.Power.{chain, products, P}
 use Rattle.bands.specs.Views.{chainFrom, IsChain, startOf, fieldOf, Links, Holds, Linked, ratioAt, Held, Added, finished, secondRow, powerIn, Ready, Starts}
-use Rattle.bands.proofs.Fields.{normal-is}
-use Rattle.bands.proofs.Chains.{chain-le, products-ge, products-lt}
-use Rattle.bands.proofs.ChainLists.{at-chain, isChain, first-of, chainFrom-length, split-lt, power-is}
+use Rattle.bands.proofs.Chains.{chain-le}
+use Rattle.bands.proofs.ChainLists.{at-chain, isChain, chainFrom-length, split-lt}
 use Rattle.bands.proofs.SetBits.{Left, unit, left-few, left-on, left-under}
-use Rattle.bands.proofs.RatioLaws.{decide, low-scaled, high-scaled}
-use Rattle.bands.proofs.Accuracy.{chosen, not-chosen}
+use Rattle.bands.proofs.PowerLaws.{start-low, start-high, field-few, row-starts, power-is}
 
 -- ---- a chain by itself is one at 0
 pub links-of : (l : List ℕ) → IsChain l → Links l 0
@@ -52,48 +47,6 @@ module _ (l : List ℕ) (at n y z left i : ℕ) (is : i ≡ at + (1 + leadingZer
       let b : getD l i 0 ≤ 2 ^ 32 = le-trans (le-of-eq next-is) (chain-le (getD l at 0) (k .high) (suc (leadingZeros 32 left))) in
       let m : z * getD l i 0 ≤ (2 ^ 32 - 1) * 2 ^ 32 = mul-le-mul {n₂ = 2 ^ 32 - 1} {m₂ = 2 ^ 32} (omega arith) b in
       lt-of-le-of-lt m (lit< tt)
-
--- ---- the start and the field of a q
-cond-T : {A : Type 0} (b : Bool) (x y : A) → T b → cond b x y ≡ x
-cond-T true x y t = refl
-cond-T false x y t = absurd t
-
-cond-F : {A : Type 0} (b : Bool) (x y : A) → T (not b) → cond b x y ≡ y
-cond-F true x y t = absurd t
-cond-F false x y t = refl
-
-pub start-some : (q : Float) → T (normal q) → startOf q ≡ scaled q
-start-some q t = cond-T (normal q) (scaled q) (2 ^ 31) t
-
-pub start-none : (q : Float) → T (not (normal q)) → startOf q ≡ 2 ^ 31
-start-none q t = cond-F (normal q) (scaled q) (2 ^ 31) t
-
-pub field-some : (q : Float) → T (normal q) → fieldOf q ≡ field q
-field-some q t = cond-T (normal q) (field q) 0 t
-
-pub field-none : (q : Float) → T (not (normal q)) → fieldOf q ≡ 0
-field-none q t = cond-F (normal q) (field q) 0 t
-
-start-low : (q : Float) → 2 ^ 31 ≤ startOf q
-start-low q = go (decide (normal q))
-  where
-    go : T (normal q) ⊎ T (not (normal q)) → 2 ^ 31 ≤ startOf q
-    go (inl t) = le-trans (low-scaled (toBits binary32 q)) (le-of-eq (sym (start-some q t)))
-    go (inr t) = le-of-eq (sym (start-none q t))
-
-start-high : (q : Float) → startOf q ≤ 2 ^ 32
-start-high q = go (decide (normal q))
-  where
-    go : T (normal q) ⊎ T (not (normal q)) → startOf q ≤ 2 ^ 32
-    go (inl t) = le-trans (le-of-eq (start-some q t)) (le-trans (high-scaled (toBits binary32 q)) (lit≤ tt))
-    go (inr t) = le-trans (le-of-eq (start-none q t)) (lit≤ tt)
-
-field-few : (q : Float) → fieldOf q < 255
-field-few q = go (decide (normal q))
-  where
-    go : T (normal q) ⊎ T (not (normal q)) → fieldOf q < 255
-    go (inl t) = lt-of-le-of-lt (le-of-eq (field-some q t)) (normal-is q t .most)
-    go (inr t) = lt-of-le-of-lt (le-of-eq (field-none q t)) (lit< tt)
 
 -- ---- the chain of s laid from `at` on, j numbers of it
 pub record Linking (o : List ℕ) (at e s : ℕ) (l : List ℕ) (last j : ℕ) : Type 0 where
@@ -189,14 +142,10 @@ held-at bs n l c i at few h b p f =
 
 -- ---- a row that starts in the table
 module _ (l : List ℕ) (at : ℕ) (k : Ready l at) (n y : ℕ) (N : n < 2 ^ 32) (e : y ≡ products (getD l (at + 1) 0) n (2 ^ 30) 32) where
-  -- is in the range that the second starts from
   pub ready-starts : Starts y
-  ready-starts = (
-    le-trans (products-ge (getD l (at + 1) 0) n (2 ^ 30) (k .links .low) N 32 (le-refl 32)) (le-of-eq (sym e)),
-    lt-of-le-of-lt (le-of-eq e) (products-lt (getD l (at + 1) 0) n (2 ^ 30) (k .links .high) (pow-pos 30) N 32 (le-refl 32)),
-  )
+  ready-starts = row-starts (getD l (at + 1) 0) n y (k .links .low) (k .links .high) N e
 
-  -- and, finished, is the power there
+  -- finished, it is the power there
   pub ready-power : (v : Float) → v ≡ finished (getD l at 0) n (secondRow (getD l at 0) n y) → v ≡ powerIn l at n
   ready-power v h = h ∙ ap (λ (z : ℕ). finished (getD l at 0) n (secondRow (getD l at 0) n z)) e
 
@@ -220,28 +169,4 @@ module _ (l : List ℕ) (at : ℕ) (q : Float) (k : Holds l at q) where
 
   -- gives its power
   pub holds-power : (n : ℕ) → powerIn l at n ≡ P q n
-  unfolding finished mantissa
-  holds-power n = go (decide (normal q))
-    where
-      go : T (normal q) ⊎ T (not (normal q)) → powerIn l at n ≡ P q n
-      go (inl t) =
-          let f : getD l at 0 ≡ field q = k .e ∙ field-some q t in
-          let s : getD l (at + 1) 0 ≡ scaled q = from-is ∙ start-some q t in
-          let z = secondRow (getD l at 0) n (products (getD l (at + 1) 0) n (2 ^ 30) 32) in
-          let m : z ≡ mantissa (scaled q) (field q) n = ap₂ (λ (x w : ℕ). secondRow x n (products w n (2 ^ 30) 32)) f s in
-          let o : eqb (field q) 0 ≡ false = ne-eqb (field q) 0 (λ e. lt-irrefl 0 (lt-of-lt-of-le (normal-is q t .least) (le-of-eq e))) in
-          ap (λ (x : ℕ). finished x n z) f ∙ ap (λ (u : Bool). cond u nan (round binary32 false (z * 2 ^ (turns (field q) n / 2 ^ 32)) (2 ^ 157))) o
-          ∙ power-is (scaled q) (field q) n z m ∙ sym (chosen q n t)
-      go (inr t) = ap (λ (x : ℕ). finished x n (secondRow (getD l at 0) n (products (getD l (at + 1) 0) n (2 ^ 30) 32))) (k .e ∙ field-none q t) ∙ sym (not-chosen q n t)
-
--- the second row is in the range that the last rounding asks
-pub second-range : (e n y z : ℕ) → Starts y → z ≡ secondRow e n y → (2 ^ 30 ≤ z) × (z < 2 ^ 32)
-second-range e n y z s h =
-    let g = turns e n % 2 ^ 32 in
-    let G : g < 2 ^ 32 = mod-lt (turns e n) (pow-pos 32) in (
-      le-trans (s .0) (le-trans (products-ge (2 ^ 32) g y (lit≤ tt) G 32 (le-refl 32)) (le-of-eq (sym h))),
-      lt-of-le-of-lt (le-of-eq h) (lt-of-lt-of-le (products-lt (2 ^ 32) g y (le-refl (2 ^ 32)) (lt-of-lt-of-le (pow-pos 30) (s .0)) G 32 (le-refl 32)) (omega (arith, s .1))),
-    )
-
-pub second-is : (l : List ℕ) (e n t y z : ℕ) → l ≡ chainFrom (2 ^ 32) 33 → t ≡ turns e n → z ≡ products (getD l 0 0) (t % 2 ^ 32) y 32 → z ≡ secondRow e n y
-second-is l e n t y z k h x = x ∙ ap₂ (λ (r g : ℕ). products r (g % 2 ^ 32) y 32) (first-of (2 ^ 32) l k) h
+  holds-power n = power-is q (getD l (at + 1) 0) (getD l at 0) n from-is (k .e)

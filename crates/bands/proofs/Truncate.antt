@@ -39,12 +39,6 @@ truncates count p h c =
     small : (i n b : ℕ) → i + 1 < b → n < 2 ^ 32 → b ≤ 16 → i * 2 ^ 32 + n < 2 ^ 64 * 2 ^ 32
     small i n b h k l = omega arith
 
-pub index-small : (count : ℕ) (p : Float) → count ≤ 16 → Cut count p → indexOf p ≤ 2 ^ 24
-index-small count p h c = low (indexOf p) count (c .inside) h
-  where
-    low : (i b : ℕ) → i + 1 < b → b ≤ 16 → i ≤ 2 ^ 24
-    low i b h l = omega arith
-
 pub in-float : (i : ℕ) → i ≤ 2 ^ 24 → T (inFloat binary32 (pos i))
 unfolding inFloat
 in-float i h = le→leb i (2 ^ 24) h

@@ -3,7 +3,7 @@ use mathlib.Core.Path.{_≡_}
 use mathlib.Core.Bool.{Bool, true, false, cond}
 use mathlib.Core.List.{[], List, _∷_}
 use Prim.Native.Nat.{ℕ, zero, suc, _+_, _*_, _/_, _%_, _^_, _≤_, _<_}
-use lib.ListN.{length, getD, replicate}
+use lib.ListN.{length, getD}
 use lib.Dec.{eqb}
 use lib.Ieee.{Float, nan, binary32, div, round}
 use lib.Ieee.Exact.{HasValue}
@@ -11,7 +11,6 @@ use Rattle.bands.specs.Root.{wholeRoot}
 use Rattle.bands.specs.Power.{chain, field, scaled, normal, turns, products}
 use Rattle.bands.specs.Bands.{atOf, bandAt}
 use Rattle.bands.specs.Position.{indexOf, fractionOf}
-use Rattle.bands.specs.declared.own_power.Ratio.{Ratio}
 use Rattle.bands.specs.declared.quant.Banded.{Banded}
 use Rattle.bands.specs.declared.quant.Banded.the-variants.{Done, Lent, Band}
 use Rattle.bands.specs.declared.spot.Segment.{Segment}
@@ -38,14 +37,7 @@ pub record IsChain (l : List ℕ) : Type 0 where
   pub low : 2 ^ 31 ≤ getD l 0 0
   pub high : getD l 0 0 ≤ 2 ^ 32
 
--- what P needs of a q: for one that is not normal or not above zero, and for any
-abbrev pub none : Ratio
-none = record { e = 0; roots = replicate 33 0 }
-
-unfoldable pub ratioOf : Float → Ratio
-ratioOf q = cond (normal q) (record { e = field q; roots = chainFrom (scaled q) 33 }) none
-
--- ---- chains, one after the other in a table
+-- ---- one power
 -- where the chain of a q starts, and its field; 2 ^ 31 and 0 for a q that has no power
 abbrev pub startOf : Float → ℕ
 startOf q = cond (normal q) (scaled q) (2 ^ 31)
@@ -53,6 +45,20 @@ startOf q = cond (normal q) (scaled q) (2 ^ 31)
 abbrev pub fieldOf : Float → ℕ
 fieldOf q = cond (normal q) (field q) 0
 
+-- a number that a row of products may start from
+abbrev pub Starts : ℕ → Type 0
+Starts y = (2 ^ 30 ≤ y) × (y < 2 ^ 31)
+
+-- the power of a field e at n from the mantissa y; a NaN for the field 0
+unfoldable pub finished : ℕ → ℕ → ℕ → Float
+unfolding round
+finished e n y = cond (eqb e 0) nan (round binary32 false (y * 2 ^ (turns e n / 2 ^ 32)) (2 ^ 157))
+
+-- the second row of products, from y
+abbrev pub secondRow : ℕ → ℕ → ℕ → ℕ
+secondRow e n y = products (2 ^ 32) (turns e n % 2 ^ 32) y 32
+
+-- ---- chains, one after the other in a table
 -- the 33 numbers from `at` on are a chain from a number between 2 ^ 31 and 2 ^ 32
 pub record Links (l : List ℕ) (at : ℕ) : Type 0 where
   pub inside : at + 33 ≤ length l
@@ -78,22 +84,9 @@ pub record Ready (l : List ℕ) (at : ℕ) : Type 0 where
   pub few : getD l at 0 < 255
   pub links : Links l (at + 1)
 
--- the power of a field e at n from the mantissa y; a NaN for the field 0
-unfoldable pub finished : ℕ → ℕ → ℕ → Float
-unfolding round
-finished e n y = cond (eqb e 0) nan (round binary32 false (y * 2 ^ (turns e n / 2 ^ 32)) (2 ^ 157))
-
--- the second row of products, from y
-abbrev pub secondRow : ℕ → ℕ → ℕ → ℕ
-secondRow e n y = products (2 ^ 32) (turns e n % 2 ^ 32) y 32
-
 -- the power at n by the field and the chain that stand in l at `at`
 abbrev pub powerIn : List ℕ → ℕ → ℕ → Float
 powerIn l at n = finished (getD l at 0) n (secondRow (getD l at 0) n (products (getD l (at + 1) 0) n (2 ^ 30) 32))
-
--- a number that a row of products may start from
-abbrev pub Starts : ℕ → Type 0
-Starts y = (2 ^ 30 ≤ y) × (y < 2 ^ 31)
 
 -- ---- bands
 -- band i of channel c: three channels lie in one list, 16 places each

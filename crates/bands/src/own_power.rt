@@ -2,12 +2,42 @@
 use crate::whole::whole_root;
 ghost use mathlib.Core.Path.{_≡_};
 ghost use mathlib.Core.Bool.{false};
-ghost use Prim.Native.Nat.{ℕ, _+_, _-_, _*_, _/_, _^_, _<_, _≤_};
+ghost use Prim.Native.Nat.{_+_, _*_, _^_, _<_, _≤_};
 ghost use lib.ListN.{getD};
-ghost use lib.Ieee.{nan, binary32, round};
+ghost use lib.Ieee.{binary32, round};
 ghost use lib.Ieee.Nearest.{closest};
-ghost use Rattle.bands.specs.Power.{products, powerOf, P};
-ghost use Rattle.bands.specs.Views.{chainFrom, IsChain, ratioOf};
+ghost use Rattle.bands.specs.Power.{products, turns, P};
+ghost use Rattle.bands.specs.Views.{chainFrom, IsChain, startOf, fieldOf, finished, secondRow, Starts};
+
+// The field of a q, and the start of its chain.
+pub struct Start {
+    pub e: u64,
+    pub s: u32,
+}
+
+// 0 and 2^31 for a q that has no power.
+pub(crate) fn start_of(q: f32) -> Start
+    ensures { λ r. ⌜ (r .e ≡ fieldOf q) × (r .s ≡ startOf q) ⌝ }
+{
+    if q != q {
+        return Start {
+            e: 0,
+            s: 2147483648,
+        };
+    }
+    let bits = f32::to_bits(q);
+    let e = bits >> 23;
+    if e < 1 || e >= 255 {
+        return Start {
+            e: 0,
+            s: 2147483648,
+        };
+    }
+    Start {
+        e: e as u64,
+        s: (8388608 + bits % 8388608) * 256,
+    }
+}
 
 // The chain from s: each next one is the whole root of (last * 2^31).
 fn chain(s: u32) -> [u64; 33]
@@ -113,66 +143,40 @@ pub(crate) fn rounded(y: u64, i: u64) -> f32
     }
 }
 
-// The power from the chain of s and the field e of a q, at n.
-fn power_from(roots: &[u64; 33], e: u64, n: u64) -> f32
-    requires { ⌜ IsChain (now roots) ⌝ }
-    requires { ⌜ (getD (now roots) 0 0 ≤ 2 ^ 32 - 2 ^ 8) × (1 ≤ e) × (e < 255) × (n < 2 ^ 32) ⌝ }
-    ensures { λ r. ⌜ r ≡ powerOf (getD (now (roots .entry)) 0 0) e n ⌝ }
+// E * n + 127 * 2^32 for the field E + 127.
+pub(crate) fn turned(e: u64, n: u64) -> u64
+    requires { ⌜ (e < 255) × (n < 2 ^ 32) ⌝ }
+    ensures { λ r. ⌜ r ≡ turns e n ⌝ }
 {
-    let turns = e * n + 127 * (4294967296 - n);
+    e * n + 127 * (4294967296 - n)
+}
+
+// The second row of products, from y.
+pub(crate) fn second(e: u64, n: u64, y: u64) -> u64
+    requires { ⌜ (e < 255) × (n < 2 ^ 32) × Starts y ⌝ }
+    ensures { λ r. ⌜ r ≡ secondRow e n y ⌝ }
+{
     let top = top_chain();
-    let first = row(roots, n, 1073741824);
-    let y = row(&top, turns % 4294967296, first);
-    rounded(y, turns >> 32)
+    row(&top, turned(e, n) % 4294967296, y)
 }
 
-// What P needs of q: its field e and the chain of its s. e is 0 for a q that is not normal or not above zero.
-pub struct Ratio {
-    pub e: u64,
-    pub roots: [u64; 33],
-}
-
-// What P needs of q, once for any number of powers of q.
-pub(crate) fn ratio_of(q: f32) -> Ratio
-    ensures { λ r. ⌜ r ≡ ratioOf q ⌝ }
+// The power from its mantissa y.
+pub(crate) fn finish(e: u64, n: u64, y: u64) -> f32
+    requires { ⌜ (e < 255) × (n < 2 ^ 32) × (2 ^ 30 ≤ y) × (y < 2 ^ 32) ⌝ }
+    ensures { λ r. ⌜ r ≡ finished e n y ⌝ }
 {
-    if q != q {
-        return Ratio {
-            e: 0,
-            roots: [0; 33],
-        };
-    }
-    let bits = f32::to_bits(q);
-    let e = bits >> 23;
-    if e < 1 || e >= 255 {
-        return Ratio {
-            e: 0,
-            roots: [0; 33],
-        };
-    }
-    let roots = chain((8388608 + bits % 8388608) * 256);
-    Ratio {
-        e: e as u64,
-        roots: roots,
-    }
-}
-
-// P(q, n / 2^32) for the q whose ratio r is.
-pub(crate) fn power_at(r: Ratio, q: f32, n: u32) -> f32
-    requires { ⌜ r ≡ ratioOf q ⌝ }
-    ensures { λ y. ⌜ y ≡ P q n ⌝ }
-{
-    let e = r.e;
     if e == 0 {
         return 0.0 / 0.0;
     }
-    let roots = r.roots;
-    power_from(&roots, e, n as u64)
+    rounded(y, turned(e, n) >> 32)
 }
 
 // P(q, n / 2^32): the power of a q that is normal and above zero, and a NaN for any other q.
 pub fn power(q: f32, n: u32) -> f32
     ensures { λ r. ⌜ r ≡ P q n ⌝ }
 {
-    power_at(ratio_of(q), q, n)
+    let s = start_of(q);
+    let m = n as u64;
+    let roots = chain(s.s);
+    finish(s.e, m, second(s.e, m, row(&roots, m, 1073741824)))
 }

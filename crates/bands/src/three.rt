@@ -1,44 +1,16 @@
 // The powers of three ratios at one n, side by side: three products that do not wait for each other.
 // What P needs of the ratios of the three channels' bands lies in one table, 34 numbers each, and is lent, not copied.
-use crate::own_power::rounded;
-use crate::own_power::row;
+use crate::own_power::finish;
+use crate::own_power::second;
+use crate::own_power::start_of;
 use crate::own_power::top_chain;
+use crate::own_power::turned;
 use crate::whole::whole_root;
 ghost use mathlib.Core.Path.{_≡_};
 ghost use Prim.Native.Nat.{_+_, _^_, _<_, _≤_};
 ghost use lib.ListN.{length, getD};
-ghost use Rattle.bands.specs.Power.{products, turns};
-ghost use Rattle.bands.specs.Views.{startOf, fieldOf, Links, Linked, Held, Added, finished, secondRow, powerIn, Ready, Starts};
-
-// The field of a q, and the start of its chain.
-struct Start {
-    e: u64,
-    s: u32,
-}
-
-// 0 and 2^31 for a q that has no power.
-fn start_of(q: f32) -> Start
-    ensures { λ r. ⌜ (r .e ≡ fieldOf q) × (r .s ≡ startOf q) ⌝ }
-{
-    if q != q {
-        return Start {
-            e: 0,
-            s: 2147483648,
-        };
-    }
-    let bits = f32::to_bits(q);
-    let e = bits >> 23;
-    if e < 1 || e >= 255 {
-        return Start {
-            e: 0,
-            s: 2147483648,
-        };
-    }
-    Start {
-        e: e as u64,
-        s: (8388608 + bits % 8388608) * 256,
-    }
-}
+ghost use Rattle.bands.specs.Power.{products};
+ghost use Rattle.bands.specs.Views.{Links, Linked, Held, Added, finished, secondRow, powerIn, Ready, Starts};
 
 // The field e and the chain from s, from `at` on.
 fn put_chain(all: &mut [u64; 1632], at: usize, e: u64, s: u32)
@@ -109,23 +81,6 @@ fn rows(t: &[u64], at0: usize, at1: usize, at2: usize, n: u32, y: Three) -> Thre
     Three { a, b, c }
 }
 
-// E * n + 127 * 2^32 for the field E + 127.
-fn turned(e: u64, n: u64) -> u64
-    requires { ⌜ (e < 255) × (n < 2 ^ 32) ⌝ }
-    ensures { λ r. ⌜ r ≡ turns e n ⌝ }
-{
-    e * n + 127 * (4294967296 - n)
-}
-
-// The second row of products, from y.
-fn second(e: u64, n: u64, y: u64) -> u64
-    requires { ⌜ (e < 255) × (n < 2 ^ 32) × Starts y ⌝ }
-    ensures { λ r. ⌜ r ≡ secondRow e n y ⌝ }
-{
-    let top = top_chain();
-    row(&top, turned(e, n) % 4294967296, y)
-}
-
 // The second row of three powers: in one loop where the fields agree, since then the exponents do.
 fn seconds(e0: u64, e1: u64, e2: u64, n: u64, y: Three) -> Three
     requires { ⌜ (e0 < 255) × (e1 < 255) × (e2 < 255) × (n < 2 ^ 32) ⌝ }
@@ -143,17 +98,6 @@ fn seconds(e0: u64, e1: u64, e2: u64, n: u64, y: Three) -> Three
         b: second(e1, n, y.b),
         c: second(e2, n, y.c),
     }
-}
-
-// The power from its mantissa y.
-fn finish(e: u64, n: u64, y: u64) -> f32
-    requires { ⌜ (e < 255) × (n < 2 ^ 32) × (2 ^ 30 ≤ y) × (y < 2 ^ 32) ⌝ }
-    ensures { λ r. ⌜ r ≡ finished e n y ⌝ }
-{
-    if e == 0 {
-        return 0.0 / 0.0;
-    }
-    rounded(y, turned(e, n) >> 32)
 }
 
 // A power or a weight of each channel.

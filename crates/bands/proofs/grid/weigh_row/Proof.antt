@@ -1,5 +1,5 @@
 -- `grid::weigh_row`: place by place (`Laid`). Assumes nothing.
-use mathlib.Core.Path.{sym, ap, subst}
+use mathlib.Core.Path.{sym, subst}
 use Prim.Native.Nat.{ℕ, _+_, _-_, _*_, _^_, _≤_, _<_}
 use native.Mathlib.Nat.{add-assoc, le-antisymm, le-trans, le-of-lt, lt-of-le-of-lt, lt-of-lt-of-le}
 use native.Mathlib.Omega.{arith}
@@ -9,7 +9,8 @@ use Rattle.bands.specs.Position.{Cut}
 use Rattle.bands.specs.Views.{bandIn}
 use Rattle.bands.specs.Grids.{gridCell, Laid, Sized}
 use Rattle.bands.proofs.Laid.{laid-next}
-use Rattle.bands.proofs.Cells.{place-cut, row-cell, place-in, area-le}
+use Rattle.bands.proofs.Asserts.{place-cut}
+use Rattle.bands.proofs.Cells.{row-cell, place-in, area-le}
 use Rattle.bands.proofs.grid.weigh_row.Statement.{statement}
 use Rattle.bands.proofs.grid.weigh_row.Tie as tie
 
@@ -43,7 +44,8 @@ weigh-three-requires c κs =
     let p = c .before .before .before .before .pre in
     let l = c .before .before .loop in
     let t : l .x < a .w = c .before .loop-test .taken in
-    (p .0 .0 .few, subst (Cut (a .count)) (sym (p .0 .3 .each (l .x) (l .inv .0) t)) (place-cut (l .x) (a .y) (a .count) (a .w) (a .h) (p .0 .0) t (p .0 .2)), p .1 .0)
+    let g = p .0 .0 in
+    (g .few, subst (Cut (a .count)) (sym (p .0 .3 .each (l .x) (l .inv .0) t)) (place-cut (a .count) (a .w) (a .h) (a .y) (l .x) (g .many) (g .few) (g .wide) (g .not-wider) (g .high) (g .not-higher) (p .0 .2) t), p .1 .0)
 
 add-put : tie.Need-add-put Inv-loop μ-loop
 add-put c =

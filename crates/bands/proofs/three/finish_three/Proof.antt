@@ -2,7 +2,7 @@
 use mathlib.Core.Path.{ap, _∙_}
 use Prim.Native.Nat.{ℕ}
 use Rattle.bands.specs.Views.{finished}
-use Rattle.bands.proofs.Tables.{second-range}
+use Rattle.bands.proofs.PowerLaws.{second-range}
 use borrow.Author.Needs.{needs}
 use Rattle.bands.proofs.three.finish_three.Statement.{statement}
 use Rattle.bands.proofs.three.finish_three.Tie as tie

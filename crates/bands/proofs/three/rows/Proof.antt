@@ -1,12 +1,12 @@
 -- `three::rows` meets its contract: of each chain what is left of n gives the product of the definition (`Left`). Assumes nothing.
 use mathlib.Core.Path.{refl}
-use Prim.Native.Nat.{ℕ, _+_, _*_, _^_, _≤_, _<_}
+use Prim.Native.Nat.{ℕ, _<_}
 use native.Mathlib.Nat.{le-of-lt, lt-of-lt-of-le}
 use native.Mathlib.Omega.{arith}
-use lib.ListN.{length, getD}
+use lib.ListN.{getD}
 use lib.Count.{leadingZeros}
 use lib.Pow.{pow-pos}
-use Rattle.bands.specs.Views.{Links, Starts}
+use Rattle.bands.specs.Views.{Starts}
 use Rattle.bands.proofs.SetBits.{Left, left-all, left-none, left-less, left-few, unit-pos}
 use Rattle.bands.proofs.Tables.{link-inside, link-on, link-fits}
 use Rattle.bands.proofs.three.rows.Statement.{statement}

@@ -2,7 +2,8 @@
 use mathlib.Core.Path.{ap, _∙_}
 use Prim.Native.Nat.{ℕ}
 use Rattle.bands.specs.Power.{turns}
-use Rattle.bands.proofs.Tables.{top-links, second-is}
+use Rattle.bands.proofs.PowerLaws.{second-is}
+use Rattle.bands.proofs.Tables.{top-links}
 use borrow.Author.Needs.{needs}
 use Rattle.bands.proofs.three.seconds.Statement.{statement}
 use Rattle.bands.proofs.three.seconds.Tie as tie

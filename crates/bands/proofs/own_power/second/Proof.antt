@@ -1,13 +1,13 @@
--- `three::second` is `secondRow`. Assumes nothing.
+-- `own_power::second` is `secondRow`. Assumes nothing.
 use Prim.Native.Nat.{_^_}
 use native.Mathlib.Nat.{le-of-lt, lt-of-lt-of-le, mod-lt}
 use lib.Dec.{lit≤}
 use lib.Pow.{pow-pos}
 use Rattle.bands.proofs.ChainLists.{isChain}
-use Rattle.bands.proofs.Tables.{second-is}
+use Rattle.bands.proofs.PowerLaws.{second-is}
 use borrow.Author.Needs.{needs}
-use Rattle.bands.proofs.three.second.Statement.{statement}
-use Rattle.bands.proofs.three.second.Tie as tie
+use Rattle.bands.proofs.own_power.second.Statement.{statement}
+use Rattle.bands.proofs.own_power.second.Tie as tie
 
 top-chain-requires : tie.Need-top-chain-requires
 top-chain-requires c κs = search needs
