@@ -1,18 +1,15 @@
 // A description written as its record.
 use crate::fixed::BANDS;
-use crate::fixed::DEFAULT;
-use crate::fixed::LINE_END;
 use crate::fixed::NUMBERS;
 use crate::fixed::SAMPLES;
-use crate::fixed::long_heading;
-use crate::fixed::orders_of;
-use crate::fixed::short_heading;
+use crate::fixed::first_line;
+use crate::fixed::long_lines;
+use crate::fixed::short_lines;
 use crate::kinds::number_count;
 use crate::put::put_bytes;
 use crate::put::put_counts;
 use crate::put::put_halves;
 use crate::put::put_samples;
-use crate::put::put_u8;
 use crate::reader::any_raw;
 use params::RowCheck;
 use transform::Kind;
@@ -23,7 +20,7 @@ ghost use lib.IntN.{pos};
 ghost use Rattle.record.specs.Text.{bytes};
 ghost use Rattle.record.specs.Number.{number, signed};
 ghost use Rattle.record.specs.Half.{half};
-ghost use Rattle.record.specs.Record.{header, heading, modeLines, parts};
+ghost use Rattle.record.specs.Record.{header, modeLines, parts};
 ghost use Rattle.record.specs.Rows.{rowFormat, entryOf};
 ghost use Rattle.record.specs.Description.{lentFault, recordOf};
 ghost use Rattle.record.specs.Replies.{fitted, writeAnswer, bufferLeft, bufferAfter};
@@ -78,33 +75,21 @@ fn put_header(out: &mut [u8], flag: u16) -> usize
     requires { ⌜ flag < 2 ⌝ }
     ensures { λ r. ⌜ Stored (header .write flag) (now (out .entry)) (now (out .exit)) 0 r 10 ⌝ }
 {
-    let p = put_bytes(out, 0, &DEFAULT);
-    put_u8(out, p, 48 + (flag as u8));
-    put_bytes(out, p + 1, &LINE_END)
-}
-
-// A kind's heading.
-fn put_heading(out: &mut [u8], at: usize, kind: usize) -> usize
-    requires { ⌜ (at < 4000000000000000000) × (kind < 17) ⌝ }
-    ensures { λ r. ⌜ Stored (heading kind) (now (out .entry)) (now (out .exit)) at r 13 ⌝ }
-{
-    if kind < 10 {
-        let line = short_heading(kind);
-        return put_bytes(out, at, &line);
-    }
-    let line = long_heading(kind);
-    put_bytes(out, at, &line)
+    let line = first_line(flag as u64);
+    put_bytes(out, 0, &line)
 }
 
 // The three lines that each kind has.
-fn put_mode(out: &mut [u8], at: usize, kind: usize, mode: u16) -> usize
+fn put_mode(out: &mut [u8], at: usize, kind: usize, mode: u64) -> usize
     requires { ⌜ (at < 3000000000000000000) × ((kind < 17) × (mode < 8)) ⌝ }
     ensures { λ r. ⌜ Stored (modeLines kind .write mode) (now (out .entry)) (now (out .exit)) at r 26 ⌝ }
 {
-    let p = put_heading(out, at, kind);
-    put_u8(out, p, 48 + (mode as u8));
-    let line = orders_of(kind);
-    put_bytes(out, p + 1, &line)
+    if kind < 10 {
+        let line = short_lines(kind, mode);
+        return put_bytes(out, at, &line);
+    }
+    let line = long_lines(kind, mode);
+    put_bytes(out, at, &line)
 }
 
 // The lines that a row's mode has.
@@ -125,7 +110,7 @@ fn put_row(kind: usize, row: &[u16], part: &[i32], out: &mut [u8], at: usize) ->
     requires { ⌜ (at < 1000000000000000000) × ((kind < 17) × Ready kind (now row) (now part)) ⌝ }
     ensures { λ r. ⌜ Stored (rowFormat kind .write (now (row .entry), now (part .entry))) (now (out .entry)) (now (out .exit)) at r 1000000000000026 ⌝ }
 {
-    let p = put_mode(out, at, kind, row[0]);
+    let p = put_mode(out, at, kind, row[0] as u64);
     put_parts(kind, row, part, out, p)
 }
 

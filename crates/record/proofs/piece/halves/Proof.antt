@@ -1,5 +1,6 @@
 -- `record::piece::halves` meets its contract: the loop of `ItemPlaces`, over half floats. Assumes nothing.
-use mathlib.Core.Path.{_≡_, refl, sym, ap, _∙_, subst}
+use mathlib.Core.Path.{_≡_, refl, sym, ap, _∙_, subst, subst⁻¹}
+use Rattle.record.proofs.Records.{end-some}
 use mathlib.Core.List.{List}
 use Prim.Native.Nat.{ℕ, _+_, _-_, _≤_, _<_}
 use native.Mathlib.Omega.{arith}
@@ -33,7 +34,7 @@ end-of-requires : tie.Need-end-of-requires Inv-loop μ-loop
 end-of-requires c κs = search needs
 
 half-at-requires : tie.Need-half-at-requires Inv-loop μ-loop
-half-at-requires c κs = c .before .before .loop .inv .1 .within
+half-at-requires c κs = (c .before .before .loop .inv .1 .within, subst⁻¹ (λ (x : ℕ). 0 < x) (c .end-of .ensures) (end-some (c .before .before .loop .left - 1)))
 
 enum-known-q : tie.Need-enum-known-q Inv-loop μ-loop
 enum-known-q c = search needs

@@ -11,6 +11,9 @@ use Rattle.record.proofs.writer.put_parts.Reads as put-parts-reads
 shared-slice-read-put-mode : tie.Need-shared-slice-read-put-mode
 shared-slice-read-put-mode c = search needs
 
+cast-put-mode : tie.Need-cast-put-mode
+cast-put-mode c = search needs
+
 put-mode-requires : tie.Need-put-mode-requires
 put-mode-requires c κs = search needs
 
@@ -26,4 +29,4 @@ returns c = let a = c .before .before .before .before .before .before .before .b
 pub put-row-spec : {M : Type 1} → statement M
 put-row-spec =
     tie.close
-    (tie.spec shared-slice-read-put-mode put-mode-requires put-parts-requires same-length returns)
+    (tie.spec shared-slice-read-put-mode cast-put-mode put-mode-requires put-parts-requires same-length returns)
