@@ -13,8 +13,9 @@ use Rattle.record.specs.Rows.{Row}
 use Rattle.record.specs.Flat.{Flat, joinRows, samplesOf}
 use Rattle.record.specs.Description.{storeParts}
 use Rattle.record.specs.Format.{Answer, got, bad, pick, Format}
-use Rattle.record.specs.Number.{both, isDigit}
-use Rattle.record.specs.Half.{isHex, mayFollow}
+use Rattle.record.specs.Number.{both, isDigit, number}
+use Rattle.record.specs.Half.{isHex, mayFollow, half}
+use Rattle.record.specs.Text.{bytes}
 use Rattle.record.specs.declared.piece.Num.{Num}
 use Rattle.record.specs.declared.piece.Num.the-variants.{Got, Bad}
 use Rattle.record.specs.declared.piece.Sample as sample
@@ -56,6 +57,13 @@ digitOr ok b = pick (both (isDigit b) (ok (b - 48))) (b - 48) 0
 -- what digit k of a half float may be, where those before it have the value v
 abbrev pub digitOk : ℕ → ℕ → ℕ → Bool
 digitOk k v = pick (eqb k 1) (mayFollow v) isHex
+
+-- a band count or a half float, and the name of the line
+abbrev pub slot : Bool → ℕ → Format ℕ
+slot hex end = pick hex (half end) (number 16 end)
+
+abbrev pub slotName : Bool → List ℕ
+slotName hex = pick hex (bytes "numbers=") (bytes "bands=")
 
 -- a row in hand: 128 slots, and no band count yet
 pub record Fresh (row : List ℕ) : Type 0 where

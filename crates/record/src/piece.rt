@@ -7,7 +7,7 @@ ghost use lib.Seq.{sets};
 ghost use lib.IntN.{ℤ, pos, negℤ};
 ghost use Rattle.record.specs.Format.{shared, seqs, byteRead, got, lit};
 ghost use Rattle.record.specs.Number.{next, number, signed};
-ghost use Rattle.record.specs.Answers.{readAt, num, toldOf, sampleOf, seen, digitOk};
+ghost use Rattle.record.specs.Answers.{readAt, num, toldOf, sampleOf, seen, digitOk, slot};
 ghost use Rattle.record.specs.Half.{half, hexOr, isHex};
 ghost use Rattle.record.specs.Record.{endOf, items};
 
@@ -183,32 +183,6 @@ pub(crate) fn put_u16(out: &mut [u16], i: usize, v: u16)
     }
 }
 
-// n half floats with commas between, stored from a place on.
-pub(crate) fn halves(s: &[u8], at: usize, n: usize, out: &mut [u16], place: usize) -> Scan
-    requires { ⌜ (at ≤ length (now s)) × (place + n < 4294967296) ⌝ }
-    ensures scanned { λ r. ⌜ r ≡ seen (readAt (seqs 0 (items half n)) (now (s .entry)) at) ⌝ }
-    ensures stored { λ r. ⌜ ((vs : List ℕ) (q : ℕ) → readAt (seqs 0 (items half n)) (now (s .entry)) at ≡ got vs q → now (out .exit) ≡ sets (now (out .entry)) place vs) ⌝ }
-{
-    let mut left = n;
-    let mut p = at;
-    let mut j = place;
-    while 0 < left {
-        left -= 1;
-        let end = end_of(left);
-        match half_at(s, p, end) {
-            Num::Bad(q) => {
-                return Scan::Bad(q);
-            }
-            Num::Got(v, q) => {
-                put_u16(out, j, v as u16);
-                p = q;
-            }
-        }
-        j += 1;
-    }
-    Scan::Got(p)
-}
-
 // The byte at i, or 0 past the end.
 pub(crate) fn byte_at(s: &[u8], i: usize) -> u8
     ensures { λ r. ⌜ r ≡ getD (now (s .entry)) i 0 ⌝ }
@@ -313,11 +287,22 @@ pub(crate) fn told(v: u64, x: Scan) -> Num
     }
 }
 
-// n band counts with commas between, stored from a place on.
-pub(crate) fn counts(s: &[u8], at: usize, n: usize, out: &mut [u16], place: usize) -> Scan
+// A band count or, where hex says so, a half float, closed by the byte end.
+pub(crate) fn slot_at(s: &[u8], at: usize, hex: bool, end: u8) -> Num
+    requires { ⌜ (at ≤ length (now s)) × ((end < 48) × (0 < end)) ⌝ }
+    ensures { λ r. ⌜ r ≡ num (readAt (slot hex end) (now (s .entry)) at) ⌝ }
+{
+    if hex {
+        return half_at(s, at, end);
+    }
+    number_at(s, at, 16, end)
+}
+
+// n of them with commas between, stored from a place on.
+pub(crate) fn slots(s: &[u8], at: usize, n: usize, hex: bool, out: &mut [u16], place: usize) -> Scan
     requires { ⌜ (at ≤ length (now s)) × (place + n < 4294967296) ⌝ }
-    ensures scanned { λ r. ⌜ r ≡ seen (readAt (seqs 0 (items (number 16) n)) (now (s .entry)) at) ⌝ }
-    ensures stored { λ r. ⌜ ((vs : List ℕ) (q : ℕ) → readAt (seqs 0 (items (number 16) n)) (now (s .entry)) at ≡ got vs q → now (out .exit) ≡ sets (now (out .entry)) place vs) ⌝ }
+    ensures scanned { λ r. ⌜ r ≡ seen (readAt (seqs 0 (items (slot hex) n)) (now (s .entry)) at) ⌝ }
+    ensures stored { λ r. ⌜ ((vs : List ℕ) (q : ℕ) → readAt (seqs 0 (items (slot hex) n)) (now (s .entry)) at ≡ got vs q → now (out .exit) ≡ sets (now (out .entry)) place vs) ⌝ }
 {
     let mut left = n;
     let mut p = at;
@@ -325,7 +310,7 @@ pub(crate) fn counts(s: &[u8], at: usize, n: usize, out: &mut [u16], place: usiz
     while 0 < left {
         left -= 1;
         let end = end_of(left);
-        match number_at(s, p, 16, end) {
+        match slot_at(s, p, hex, end) {
             Num::Bad(q) => {
                 return Scan::Bad(q);
             }
