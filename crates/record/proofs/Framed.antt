@@ -1,31 +1,33 @@
 -- What the readers of fixed bytes, of digits and of lines between fixed bytes go by. Assumes nothing.
 use mathlib.Core.Path.{_≡_, refl, sym, ap, _∙_, subst, subst⁻¹}
-use mathlib.Core.List.{List, [], _∷_, _++_}
+use mathlib.Core.List.{List, [], _∷_, _++_, append-assoc}
 use mathlib.Core.Bool.{Bool, true, false}
-use Prim.Native.Nat.{ℕ, zero, suc, _+_, _-_, _≤_, _<_}
-use native.Mathlib.Nat.{add-zero}
-use native.Mathlib.Decide.{decLt}
+use Prim.Native.Nat.{ℕ, zero, suc, _+_, _-_, _≤_, _<_, zero-le, suc-le-suc}
+use native.Mathlib.Nat.{le-of-suc-le-suc, le-refl}
+use native.Mathlib.Decide.{ℕ-discrete, decLt}
 use native.Mathlib.Omega.{arith}
-use borrow.Author.Tests.{lt-leb, le-leb, lt-ltb, le-ltb}
-use lib.ListN.{length, drop, getD, length-drop, drop-of-length-le}
-use lib.Dec.{leb, ltb}
+use borrow.Author.Tests.{lt-leb, le-leb, lt-ltb, le-ltb, eq-eqb, ne-eqb, leb-true}
+use lib.ListN.{length, drop, getD, set, length-drop}
+use lib.Seq.{getD-drop}
+use lib.Dec.{T, leb, ltb}
+use Rattle.transform.specs.Kinds.{widthOf, heightOf}
 use Rattle.params.specs.Row.{allowed}
-use Rattle.record.specs.Format.{Answer, got, bad, shared, Format, Lawful, lit, byte, after, closed, mapAnswer}
+use Rattle.record.specs.Format.{Answer, got, bad, pick, shared, Format, Lawful, lit, after, closed, mapAnswer}
+use Rattle.record.specs.Text.{bytes}
 use Rattle.record.specs.declared.piece.Num.{Num}
 use Rattle.record.specs.declared.piece.Num.the-variants.{Got, Bad}
 use Rattle.record.specs.declared.piece.Scan as scan
 use Rattle.record.specs.declared.piece.Scan.the-variants as scans
-use Rattle.record.specs.Answers.{readAt, num, seen}
+use Rattle.record.specs.Answers.{shift, readAt, num, seen, toldOf, digitOr}
 use Rattle.record.specs.Number.{both, isDigit}
-use Rattle.record.specs.Record.{digit, modeOk, heading}
-use Rattle.record.proofs.Laws.{lit-lawful}
+use Rattle.record.specs.Record.{digit, header, modeOk, heading, orders, modeLines}
+use Rattle.record.proofs.Laws.{no-beginning, refused, longest-one, lit-whole, lit-lawful, after-lawful, closed-lawful}
+use Rattle.record.proofs.HalfLaws.{isTrue}
 use Rattle.record.proofs.Records.{digit-lawful}
-use Rattle.record.proofs.Shared.{shared-le-left, shared-le-right}
-use Rattle.record.proofs.Numbers.{both-false}
-use Rattle.record.proofs.Places.{drop-here}
-use Rattle.record.proofs.Positions.{read-via, read-within, lit-refuses, lit-reads, after-bad, after-got, closed-first, closed-bad, closed-got}
-use Rattle.record.proofs.SignPlaces.{inside}
-use Rattle.record.proofs.ItemPlaces.{num-got, num-bad}
+use Rattle.record.proofs.Shared.{shared-le-left, shared-le-right, shared-more, begins, begins-with}
+use Rattle.record.proofs.Numbers.{both-false, T-both}
+use Rattle.record.proofs.Positions.{read-within, lit-refuses, lit-reads}
+use Rattle.record.proofs.ItemPlaces.{num-got}
 
 -- ---- an answer's position and the answer
 
@@ -60,105 +62,187 @@ module _ (s w : List ℕ) (at n : ℕ) (e : n ≡ shared (drop at s) w) where
   pub fixed-fits : at ≤ length s → at + n ≤ length s
   fixed-fits h = omega (arith, e, shared-le-left (drop at s) w, length-drop at s)
 
--- ---- a digit
+-- ---- a text held against one writing
 
-module _ (ok : ℕ → Bool) (s : List ℕ) (at b : ℕ) (e : b ≡ getD s at 0) where
-  abbrev okByte : ℕ → Bool
-  okByte x = both (isDigit x) (ok (x - 48))
+-- the writing that shares the most with a text reads it as its bytes do
+module _ {A : Type 0} (F : Format A) (L : Lawful F) (t : List ℕ) (d : A) (o : F .Ok d) (most : (a : A) → F .Ok a → shared t (F .write a) ≤ shared t (F .write d)) where
+  -- another value's writing does not stand there
+  not-another : shared t (F .write d) < length (F .write d) → (a : A) (n : ℕ) → F .read t ≡ got a n → ⊥
+  not-another h a n e =
+      let b = L .back t a n e in
+      let k : length (F .write a) ≤ shared t (F .write a) = subst⁻¹ (λ (x : List ℕ). length (F .write a) ≤ shared x (F .write a)) (b .1) (lit-whole (F .write a) (drop n t)) in
+      let w : F .write d ≡ F .write a ++ drop (length (F .write a)) (F .write d) =
+      begins (F .write a) (drop n t) (F .write d) (subst (λ (x : List ℕ). length (F .write a) ≤ shared x (F .write d)) (b .1) (omega (arith, k, most a (b .0)))) in
+      let q : a ≡ d = no-beginning F L a d (drop (length (F .write a)) (F .write d)) (b .0) o (sym w) in
+      omega (arith, h, subst (λ (x : A). length (F .write x) ≤ shared t (F .write x)) q k)
 
-  digit-is : readAt (digit ok) s at ≡ mapAnswer (λ x. x - 48) (readAt (byte okByte) s at)
-  digit-is = read-via (λ x. x - 48) (λ n. 48 + n) (byte okByte) s at
-
-  refused-here : at < length s → okByte b ≡ false → readAt (byte okByte) s at ≡ bad at
-  unfolding readAt
-  refused-here l h = rw (drop-here s at l, sym e, h) (ap bad (add-zero at))
-
-  refused-past : length s ≤ at → readAt (byte okByte) s at ≡ bad at
-  unfolding readAt
-  refused-past l = rw (drop-of-length-le s {i = at} l) (ap bad (add-zero at))
-
-  refused : okByte b ≡ false → Bad at ≡ num (readAt (digit ok) s at)
-  refused h = sym (ap num (digit-is ∙ ap (mapAnswer (λ x. x - 48)) (go (decLt at (length s)))))
+  by-one : F .read t ≡ mapAnswer (λ u. d) (lit (F .write d) .read t)
+  by-one = go (decLt (shared t (F .write d)) (length (F .write d)))
     where
-      go : Dec (at < length s) → readAt (byte okByte) s at ≡ bad at
-      go (yes l) = refused-here l h
-      go (no l) = refused-past (omega arith)
+      refuses : shared t (F .write d) < length (F .write d) → (x : Answer A) → F .read t ≡ x → F .read t ≡ bad (shared t (F .write d))
+      refuses h (got a n) e = absurd (not-another h a n e)
+      refuses h (bad n) e = e ∙ ap bad (longest-one F t n (shared t (F .write d)) (refused F L t n e) (record { reached = (d, o, refl); most = most }))
 
-  pub digit-low : b < 48 → Bad at ≡ num (readAt (digit ok) s at)
-  digit-low h = refused (rw (lt-leb 48 b h))
+      go : Dec (shared t (F .write d) < length (F .write d)) → F .read t ≡ mapAnswer (λ u. d) (lit (F .write d) .read t)
+      go (yes h) = refuses h (F .read t) refl ∙ sym (rw (lt-leb (length (F .write d)) (shared t (F .write d)) h))
+      go (no h) =
+          let k : length (F .write d) ≤ shared t (F .write d) = omega arith in
+          let w : t ≡ F .write d ++ drop (length (F .write d)) t = begins-with (F .write d) t k in
+          ap (F .read) w ∙ L .there d (drop (length (F .write d)) t) o ∙ sym (rw (le-leb (length (F .write d)) (shared t (F .write d)) k))
 
-  pub digit-not : ok (b - 48) ≡ false → Bad at ≡ num (readAt (digit ok) s at)
-  digit-not h = refused (rw h (both-false (isDigit b)))
+-- ---- a digit between fixed bytes, held against the digit that stands there, or 0
 
-  digit-here : 48 ≤ b → b < 58 → ok (b - 48) ≡ true → readAt (byte okByte) s at ≡ got b (at + 1)
+shared-at : (t u : List ℕ) (i : ℕ) → i < shared t u → getD t i 0 ≡ getD u i 0
+shared-at [] u i h = absurd (omega arith)
+shared-at (a ∷ t) [] i h = absurd (omega arith)
+shared-at (a ∷ t) (b ∷ u) i h = go (ℕ-discrete a b) (shared-at t u) i h
+  where
+    go : Dec (a ≡ b) → ((i : ℕ) → i < shared t u → getD t i 0 ≡ getD u i 0) → (i : ℕ) → i < shared (a ∷ t) (b ∷ u) → getD (a ∷ t) i 0 ≡ getD (b ∷ u) i 0
+    go (yes e) ih zero h = e
+    go (yes e) ih (suc i) h = ih i (le-of-suc-le-suc (rw (eq-eqb a b e) at h))
+    go (no n) ih i h = absurd (let q : shared (a ∷ t) (b ∷ u) ≡ 0 = rw (ne-eqb a b n) in omega arith)
+
+-- what parts from a longer text within w shares no more with that than with w
+shared-cut : (t w x : List ℕ) → shared t (w ++ x) ≤ length w → shared t (w ++ x) ≤ shared t w
+shared-cut t [] x h = omega (arith, h)
+shared-cut [] (b ∷ w) x h = zero-le
+shared-cut (a ∷ t) (b ∷ w) x h = go (ℕ-discrete a b) (shared-cut t w x)
+  where
+    go : Dec (a ≡ b) → (shared t (w ++ x) ≤ length w → shared t (w ++ x) ≤ shared t w) → shared (a ∷ t) (b ∷ (w ++ x)) ≤ shared (a ∷ t) (b ∷ w)
+    go (yes e) ih = rw (eq-eqb a b e) (suc-le-suc (ih (le-of-suc-le-suc (rw (eq-eqb a b e) at h))))
+    go (no n) ih = rw (ne-eqb a b n) zero-le
+
+at-seam : (w : List ℕ) (b : ℕ) (v : List ℕ) → getD ((w ++ (b ∷ [])) ++ v) (length w) 0 ≡ b
+at-seam [] b v = refl
+at-seam (a ∷ w) b v = at-seam w b v
+
+module _ (w v : List ℕ) (ok : ℕ → Bool) (zeroth : T (ok 0)) where
+  abbrev Line : Format ℕ
+  Line = closed v (after w (digit ok))
+
+  line-lawful : Lawful Line
+  line-lawful = closed-lawful v (after w (digit ok)) (after-lawful w (digit ok) (digit-lawful ok zeroth))
+
+  -- the digit that is allowed
+  digit-of : (d : ℕ) → Line .Ok d → digitOr ok (48 + d) ≡ d
+  digit-of d o =
+      let q : 48 + d - 48 ≡ d = omega arith in
+      rw (isTrue (both (isDigit (48 + d)) (ok (48 + d - 48))) (o .0 .0 .0 .1 .0)) q
+
+  either : (x : Bool) (b : ℕ) → both (isDigit b) (ok (b - 48)) ≡ x → Line .Ok (pick x (b - 48) 0)
+  either true b e =
+      let u : (isDigit b ≡ true) × (ok (b - 48) ≡ true) = T-both (isDigit b) (ok (b - 48)) e in
+      let z : (leb 48 b ≡ true) × (ltb b 58 ≡ true) = T-both (leb 48 b) (ltb b 58) (u .0) in
+      let q : 48 + (b - 48) ≡ b = omega (arith, leb-true 48 b (z .0)) in
+      ((((tt, (subst⁻¹ (λ (y : ℕ). T (both (isDigit y) (ok (y - 48)))) q (subst⁻¹ T e tt), ap (λ (y : ℕ). y - 48) q)), refl), tt), refl)
+  either false b e = ((((tt, (zeroth, refl)), refl), tt), refl)
+
+  module _ (t : List ℕ) (d : ℕ) (e : d ≡ digitOr ok (getD t (length w) 0)) where
+    allowed-digit : Line .Ok d
+    allowed-digit = subst⁻¹ (λ (x : ℕ). Line .Ok x) e (either (both (isDigit (getD t (length w) 0)) (ok (getD t (length w) 0 - 48))) (getD t (length w) 0) refl)
+
+    most : (a : ℕ) → Line .Ok a → shared t (Line .write a) ≤ shared t (Line .write d)
+    most a o = go (decLt (length w) (shared t (Line .write a)))
+      where
+        go : Dec (length w < shared t (Line .write a)) → shared t (Line .write a) ≤ shared t (Line .write d)
+        go (yes h) =
+            let q : getD t (length w) 0 ≡ 48 + a = shared-at t (Line .write a) (length w) h ∙ at-seam w (48 + a) v in
+            let z : d ≡ a = e ∙ ap (digitOr ok) q ∙ digit-of a o in
+            subst⁻¹ (λ (x : ℕ). shared t (Line .write a) ≤ shared t (Line .write x)) z (le-refl _)
+        go (no h) =
+            let x : Line .write a ≡ w ++ ((48 + a) ∷ v) = append-assoc w ((48 + a) ∷ []) v in
+            let y : Line .write d ≡ w ++ ((48 + d) ∷ v) = append-assoc w ((48 + d) ∷ []) v in
+            omega (
+              arith,
+              ap (shared t) x,
+              ap (shared t) y,
+              shared-more t w ((48 + d) ∷ v),
+              shared-cut t w ((48 + a) ∷ v) (omega (arith, h, ap (shared t) x)),
+            )
+
+  told-answer : (d at : ℕ) (x : Answer (Unit {0})) → toldOf d (seen (shift at x)) ≡ num (shift at (mapAnswer (λ u. d) x))
+  told-answer d at (got u n) = refl
+  told-answer d at (bad n) = refl
+
+  -- the text from a position on
+  pub framed : (s : List ℕ) (at p d : ℕ) (l : List ℕ) (r : scan.Scan) (x : Num) → p ≡ at + length w → d ≡ digitOr ok (getD s p 0) → l ≡ Line .write d → r ≡ seen (readAt (lit l) s at) → x ≡ toldOf d r → x ≡ num (readAt Line s at)
   unfolding readAt
-  digit-here h k t = rw (drop-here s at (inside s at b (omega arith) e), sym e, le-leb 48 b h, lt-ltb b 58 k, t)
+  framed s at p d l r x k e g h j =
+      let z : d ≡ digitOr ok (getD (drop at s) (length w) 0) = e ∙ ap (λ (i : ℕ). digitOr ok (getD s i 0)) k ∙ ap (digitOr ok) (sym (getD-drop at s (length w) 0)) in
+      j ∙ ap (toldOf d) (h ∙ ap (λ (y : List ℕ). seen (shift at (lit y .read (drop at s)))) g) ∙ told-answer d at (lit (Line .write d) .read (drop at s))
+      ∙ ap (λ (y : Answer ℕ). num (shift at y)) (sym (by-one Line line-lawful (drop at s) d (allowed-digit (drop at s) d z) (most (drop at s) d z)))
 
-  pub digit-got : 48 ≤ b → b < 58 → ok (b - 48) ≡ true → Got (b - 48) (at + 1) ≡ num (readAt (digit ok) s at)
-  digit-got h k t = sym (ap num (digit-is ∙ ap (mapAnswer (λ x. x - 48)) (digit-here h k t)))
+-- the first line; the three lines of a kind
+pub first-framed : (s : List ℕ) (d : ℕ) (l : List ℕ) (r : scan.Scan) (x : Num) → d ≡ digitOr (λ d. leb d 1) (getD s 8 0) → l ≡ header .write d → r ≡ seen (readAt (lit l) s 0) → x ≡ toldOf d r → x ≡ num (readAt header s 0)
+first-framed s d l r x e g h j = framed (bytes "default=") (bytes "\n") (λ d. leb d 1) tt s 0 8 d l r x refl e g h j
 
--- the flag
+pub kind-framed : (k : ℕ) (s : List ℕ) (at p d : ℕ) (l : List ℕ) (r : scan.Scan) (x : Num) → p ≡ at + length (heading k) → d ≡ digitOr (modeOk k) (getD s p 0) → l ≡ modeLines k .write d → r ≡ seen (readAt (lit l) s at) → x ≡ toldOf d r → x ≡ num (readAt (modeLines k) s at)
+kind-framed k = framed (heading k) (orders k) (modeOk k) tt
+
+pub short-place : (k at : ℕ) → k < 10 → at + 12 ≡ at + length (heading k)
+short-place k at h = rw (lt-ltb k 10 h)
+
+pub long-place : (k at : ℕ) → 10 ≤ k → at + 13 ≡ at + length (heading k)
+long-place k at h = rw (le-ltb k 10 h)
+
+-- ---- told, first_line, short_lines and long_lines
+
+pub told-got : (v q : ℕ) (x : scan.Scan) → x ≡ scans.Got q → Got v q ≡ toldOf v x
+told-got v q x e = sym (ap (toldOf v) e)
+
+pub told-bad : (v q : ℕ) (x : scan.Scan) → x ≡ scans.Bad q → Bad q ≡ toldOf v x
+told-bad v q x e = sym (ap (toldOf v) e)
+
+module _ (k m : ℕ) (l : List ℕ) where
+  pub short-one : k < 10 → (a b : ℕ) → a ≡ widthOf k → b ≡ heightOf k → a ≡ b → l ≡ bytes "kind=0\nmode=0\norders=one\n" → set (set l 5 (48 + k)) 12 (48 + m) ≡ modeLines k .write m
+  short-one h a b f g q e = rw (e, lt-ltb k 10 h, eq-eqb (widthOf k) (heightOf k) (sym f ∙ q ∙ g))
+
+  pub short-two : k < 10 → (a b : ℕ) → a ≡ widthOf k → b ≡ heightOf k → (a ≡ b → ⊥) → l ≡ bytes "kind=0\nmode=0\norders=two\n" → set (set l 5 (48 + k)) 12 (48 + m) ≡ modeLines k .write m
+  short-two h a b f g q e = rw (e, lt-ltb k 10 h, ne-eqb (widthOf k) (heightOf k) (λ z. q (f ∙ z ∙ sym g)))
+
+  pub long-one : 10 ≤ k → (a b : ℕ) → a ≡ widthOf k → b ≡ heightOf k → a ≡ b → l ≡ bytes "kind=10\nmode=0\norders=one\n" → set (set l 6 (38 + k)) 13 (48 + m) ≡ modeLines k .write m
+  long-one h a b f g q e = rw (e, le-ltb k 10 h, eq-eqb (widthOf k) (heightOf k) (sym f ∙ q ∙ g))
+
+  pub long-two : 10 ≤ k → (a b : ℕ) → a ≡ widthOf k → b ≡ heightOf k → (a ≡ b → ⊥) → l ≡ bytes "kind=10\nmode=0\norders=two\n" → set (set l 6 (38 + k)) 13 (48 + m) ≡ modeLines k .write m
+  long-two h a b f g q e = rw (e, le-ltb k 10 h, ne-eqb (widthOf k) (heightOf k) (λ z. q (f ∙ z ∙ sym g)))
+
+-- ---- flag_at, mode_digit: a digit that may stand there, and one that may not
+
 module _ (s : List ℕ) (at b : ℕ) (e : b ≡ getD s at 0) where
-  pub flag-high : 50 ≤ b → Bad at ≡ num (readAt (digit (λ d. leb d 1)) s at)
-  flag-high h = digit-not (λ d. leb d 1) s at b e (lt-leb (b - 48) 1 (omega arith))
+  pub flag-one : b ≡ 49 → (1 ≡ digitOr (λ d. leb d 1) (getD s at 0)) × (1 < 2)
+  flag-one h = (rw (sym e, h), omega arith)
 
-  pub flag-got : 48 ≤ b → b < 50 → Got (b - 48) (at + 1) ≡ num (readAt (digit (λ d. leb d 1)) s at)
-  flag-got h k = digit-got (λ d. leb d 1) s at b e h (omega arith) (le-leb (b - 48) 1 (omega arith))
+  flag-other : (b ≡ 49 → ⊥) → 0 ≡ digitOr (λ d. leb d 1) b
+  flag-other h = go (decLt b 48) (decLt b 50)
+    where
+      go : Dec (b < 48) → Dec (b < 50) → 0 ≡ digitOr (λ d. leb d 1) b
+      go (yes l) m = rw (lt-leb 48 b l)
+      go (no l) (yes m) = let q : b ≡ 48 = omega (arith, h) in rw q
+      go (no l) (no m) = rw (lt-leb (b - 48) 1 (omega arith), both-false (isDigit b))
 
--- a mode
+  pub flag-none : (b ≡ 49 → ⊥) → (0 ≡ digitOr (λ d. leb d 1) (getD s at 0)) × (0 < 2)
+  flag-none h = (flag-other h ∙ ap (digitOr (λ d. leb d 1)) e, omega arith)
+
 module _ (k : ℕ) (s : List ℕ) (at b : ℕ) (e : b ≡ getD s at 0) where
-  pub mode-high : 56 ≤ b → Bad at ≡ num (readAt (digit (modeOk k)) s at)
-  mode-high h = digit-not (modeOk k) s at b e (rw (le-ltb (b - 48) 8 (omega arith)))
+  here : (d : ℕ) → d ≡ digitOr (modeOk k) b → d < 8 → (d ≡ digitOr (modeOk k) (getD s at 0)) × (d < 8)
+  here d g h = (g ∙ ap (digitOr (modeOk k)) e, h)
 
-  both-true : (x y : Bool) → x ≡ true → both x y ≡ y
-  both-true x y p = rw p
+  pub mode-low : b < 48 → (0 ≡ digitOr (modeOk k) (getD s at 0)) × (0 < 8)
+  mode-low h = here 0 (rw (lt-leb 48 b h)) (omega arith)
+
+  pub mode-high : 56 ≤ b → (0 ≡ digitOr (modeOk k) (getD s at 0)) × (0 < 8)
+  mode-high h = here 0 (rw (le-ltb (b - 48) 8 (omega arith), both-false (isDigit b))) (omega arith)
 
   module _ (l : 48 ≤ b) (h : b < 56) (a : Bool) (g : a ≡ allowed k (b - 48)) where
-    is-allowed : modeOk k (b - 48) ≡ a
-    is-allowed = both-true (ltb (b - 48) 8) (allowed k (b - 48)) (lt-ltb (b - 48) 8 (omega arith)) ∙ sym g
+    mode-is : digitOr (modeOk k) b ≡ pick a (b - 48) 0
+    mode-is = rw (le-leb 48 b l, lt-ltb b 58 (omega arith), lt-ltb (b - 48) 8 (omega arith), g)
 
-    pub mode-barred : a ≡ false → Bad at ≡ num (readAt (digit (modeOk k)) s at)
-    mode-barred t = digit-not (modeOk k) s at b e (is-allowed ∙ t)
+    pub mode-barred : a ≡ false → (0 ≡ digitOr (modeOk k) (getD s at 0)) × (0 < 8)
+    mode-barred t = here 0 (sym (mode-is ∙ rw t)) (omega arith)
 
-    pub mode-got : a ≡ true → Got (b - 48) (at + 1) ≡ num (readAt (digit (modeOk k)) s at)
-    mode-got t = digit-got (modeOk k) s at b e l (omega arith) (is-allowed ∙ t)
+    pub mode-got : a ≡ true → (b - 48 ≡ digitOr (modeOk k) (getD s at 0)) × (b - 48 < 8)
+    mode-got t = here (b - 48) (sym (mode-is ∙ rw t)) (omega arith)
 
--- ---- a number between fixed bytes
-
-module _ (w v : List ℕ) (F : Format ℕ) (s : List ℕ) (at : ℕ) (r : scan.Scan) (e : r ≡ seen (readAt (lit w) s at)) where
-  pub framed-open : (q : ℕ) → r ≡ scans.Bad q → Bad q ≡ num (readAt (closed v (after w F)) s at)
-  framed-open q k = sym (ap num (closed-first v (after w F) s at q (after-bad w F s at q (seen-bad (readAt (lit w) s at) r q e k))))
-
-  pub open-within : (p : ℕ) → at ≤ length s → r ≡ scans.Got p → p ≤ length s
-  open-within p h k = seen-within (lit w) (lit-lawful w) s at r p h e k
-
-  module _ (p : ℕ) (k : r ≡ scans.Got p) where
-    opened : readAt (after w F) s at ≡ readAt F s p
-    opened = let g : (u : Unit {0}) × (readAt (lit w) s at ≡ got u p) = seen-got (readAt (lit w) s at) r p e k in after-got w F s at (g .0) p (g .1)
-
-    module _ (x : Num) (g : x ≡ num (readAt F s p)) where
-      pub framed-bad : (q : ℕ) → x ≡ Bad q → Bad q ≡ num (readAt (closed v (after w F)) s at)
-      framed-bad q j = sym (ap num (closed-first v (after w F) s at q (opened ∙ num-bad (readAt F s p) x q g j)))
-
-      module _ (d q : ℕ) (j : x ≡ Got d q) (y : scan.Scan) (i : y ≡ seen (readAt (lit v) s q)) where
-        pub framed-shut : (z : ℕ) → y ≡ scans.Bad z → Bad z ≡ num (readAt (closed v (after w F)) s at)
-        framed-shut z h = sym (ap num (closed-bad v (after w F) s at d q z (opened ∙ num-got (readAt F s p) x d q g j) (seen-bad (readAt (lit v) s q) y z i h)))
-
-        pub framed-got : (z : ℕ) → y ≡ scans.Got z → Got d z ≡ num (readAt (closed v (after w F)) s at)
-        framed-got z h =
-            let b : (u : Unit {0}) × (readAt (lit v) s q ≡ got u z) = seen-got (readAt (lit v) s q) y z i h in
-            sym (ap num (closed-got v (after w F) s at d (b .0) q z (opened ∙ num-got (readAt F s p) x d q g j) (b .1)))
-
--- the positions that these reach
+-- the position that fixed bytes reach
 pub lit-within : (w s : List ℕ) (at : ℕ) (r : scan.Scan) (p : ℕ) → at ≤ length s → r ≡ seen (readAt (lit w) s at) → r ≡ scans.Got p → p ≤ length s
 lit-within w = seen-within (lit w) (lit-lawful w)
-
-pub flag-within : (s : List ℕ) (at : ℕ) (r : Num) (v p : ℕ) → at ≤ length s → r ≡ num (readAt (digit (λ d. leb d 1)) s at) → r ≡ Got v p → p ≤ length s
-flag-within = num-within (digit (λ d. leb d 1)) (digit-lawful (λ d. leb d 1) tt)
-
-pub mode-within : (k : ℕ) (s : List ℕ) (at : ℕ) (r : Num) (v p : ℕ) → at ≤ length s → r ≡ num (readAt (digit (modeOk k)) s at) → r ≡ Got v p → p ≤ length s
-mode-within k = num-within (digit (modeOk k)) (digit-lawful (modeOk k) tt)
-
--- the same bytes by another name
-pub lit-same : (w v s : List ℕ) (at : ℕ) (r : scan.Scan) → r ≡ seen (readAt (lit w) s at) → w ≡ v → r ≡ seen (readAt (lit v) s at)
-lit-same w v s at r e k = e ∙ ap (λ (x : List ℕ). seen (readAt (lit x) s at)) k

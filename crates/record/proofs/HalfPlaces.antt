@@ -4,6 +4,7 @@ use mathlib.Core.List.{List, [], _∷_, _++_}
 use mathlib.Core.Bool.{Bool, true, false, not}
 use mathlib.Core.Logic.{_⊎_, inl, inr}
 use native.Mathlib.Nat.{add-zero}
+use native.Mathlib.Decide.{ℕ-discrete, decLt}
 use Prim.Native.Nat.{ℕ, zero, suc, _+_, _*_, _-_, _/_, _%_, _≤_, _<_}
 use native.Mathlib.Omega.{arith}
 use borrow.Author.Tests.{eq-eqb, ne-eqb, lt-ltb, le-ltb, le-leb, lt-leb}
@@ -12,11 +13,13 @@ use lib.Dec.{T, eqb, leb, ltb}
 use Rattle.record.specs.Format.{Answer, got, bad, pick, shared, Format, byte, byteRead, _▷_, via, closed, mapAnswer}
 use Rattle.record.specs.declared.piece.Num.{Num}
 use Rattle.record.specs.declared.piece.Num.the-variants.{Got, Bad}
-use Rattle.record.specs.Answers.{shift, readAt, num}
+use Rattle.record.specs.Answers.{shift, readAt, num, digitOk}
 use Rattle.record.specs.Number.{both, isDigit}
 use Rattle.record.specs.Half.{isHex, hexValue, hexOr, mayFollow, four, hexNumber, hexDigits, half}
 use Rattle.record.proofs.HalfLaws.{hex-back, follow-hex, isTrue}
+use Rattle.record.proofs.Numbers.{both-false}
 use Rattle.record.proofs.Shared.{shared-same, shared-other, shared-nil}
+use Rattle.record.proofs.SignPlaces.{inside}
 use Rattle.record.proofs.Places.{drop-here, shared-out}
 use Rattle.record.proofs.Positions.{first-refuses, second-refuses, both-read, read-via, closed-first, closed-last, closed-reads}
 
@@ -41,7 +44,7 @@ module _ (s : List ℕ) (i : ℕ) where
   pub hex-high : i < length s → 48 ≤ getD s i 0 → 58 ≤ getD s i 0 → 97 ≤ getD s i 0 → 103 ≤ getD s i 0 → 16 ≡ hexOr (byteRead isHex (drop i s))
   hex-high h l k m u = rw (drop-here s i h, le-leb 48 (getD s i 0) l, le-ltb (getD s i 0) 58 k, le-leb 97 (getD s i 0) m, le-ltb (getD s i 0) 103 u)
 
--- ---- second_at
+-- ---- digit_at
 
 second-of : (v w : ℕ) (t : List ℕ) → w ≡ hexOr (byteRead isHex t) → hexOr (byteRead (mayFollow v) t) ≡ pick (both (eqb (v % 8) 7) (leb 12 w)) 16 w
 second-of v w [] e = rw e (go (eqb (v % 8) 7))
@@ -67,15 +70,25 @@ second-of v w (b ∷ t) e = go (isHex b) refl
         let q : w ≡ 16 = e ∙ rw h in
         rw (q, h) (same (both (eqb (v % 8) 7) true))
 
-module _ (v w : ℕ) (s : List ℕ) (i : ℕ) (e : w ≡ hexOr (byteRead isHex (drop i s))) where
-  pub second-stop : v % 8 ≡ 7 → 12 ≤ w → 16 ≡ hexOr (byteRead (mayFollow v) (drop i s))
-  second-stop h k = sym (second-of v w (drop i s) e ∙ rw (eq-eqb (v % 8) 7 h, le-leb 12 w k))
+module _ (k v w : ℕ) (s : List ℕ) (i : ℕ) (e : w ≡ hexOr (byteRead isHex (drop i s))) where
+  pub kth-later : (k ≡ 1 → ⊥) → w ≡ hexOr (byteRead (digitOk k v) (drop i s))
+  kth-later h = e ∙ rw (ne-eqb k 1 h)
 
-  pub second-less : v % 8 ≡ 7 → w < 12 → w ≡ hexOr (byteRead (mayFollow v) (drop i s))
-  second-less h k = sym (second-of v w (drop i s) e ∙ rw (eq-eqb (v % 8) 7 h, lt-leb 12 w k))
+  kth-second : both (eqb (v % 8) 7) (leb 12 w) ≡ false → w ≡ hexOr (byteRead (digitOk k v) (drop i s))
+  kth-second h = go (ℕ-discrete k 1)
+    where
+      go : Dec (k ≡ 1) → w ≡ hexOr (byteRead (digitOk k v) (drop i s))
+      go (yes q) = rw (eq-eqb k 1 q) (sym (second-of v w (drop i s) e ∙ ap (λ (x : Bool). pick x 16 w) h))
+      go (no q) = kth-later q
 
-  pub second-free : (v % 8 ≡ 7 → ⊥) → w ≡ hexOr (byteRead (mayFollow v) (drop i s))
-  second-free h = sym (second-of v w (drop i s) e ∙ rw (ne-eqb (v % 8) 7 h))
+  pub kth-low : w < 12 → w ≡ hexOr (byteRead (digitOk k v) (drop i s))
+  kth-low h = kth-second (rw (lt-leb 12 w h) (both-false (eqb (v % 8) 7)))
+
+  pub kth-free : (v % 8 ≡ 7 → ⊥) → w ≡ hexOr (byteRead (digitOk k v) (drop i s))
+  kth-free h = kth-second (rw (ne-eqb (v % 8) 7 h))
+
+  pub kth-stop : k ≡ 1 → v % 8 ≡ 7 → 12 ≤ w → 16 ≡ hexOr (byteRead (digitOk k v) (drop i s))
+  kth-stop q h l = rw (eq-eqb k 1 q) (sym (second-of v w (drop i s) e ∙ rw (eq-eqb (v % 8) 7 h, le-leb 12 w l)))
 
 -- ---- a digit at a position
 
@@ -139,7 +152,7 @@ digit-to ok hex s i n v e h q =
     let g : (b : ℕ) × (readAt (byte ok) s i ≡ got b (i + 1)) × (hexValue b ≡ v) = digit-got ok hex s i v e h in
     (g .0, g .1 ∙ ap (got (g .0)) q, g .2)
 
-pub half-1 : (s : List ℕ) (at end a : ℕ) → a ≡ hexOr (byteRead isHex (drop at s)) → 16 ≤ a → Bad at ≡ num (readAt (half end) s at)
+half-1 : (s : List ℕ) (at end a : ℕ) → a ≡ hexOr (byteRead isHex (drop at s)) → 16 ≤ a → Bad at ≡ num (readAt (half end) s at)
 half-1 s at end a ra h = refuses s at end at (first-refuses (byte isHex) Second s at at (digit-bad isHex (λ y t. t) s at a ra h))
 
 module _ (s : List ℕ) (at end a b : ℕ) (ra : a ≡ hexOr (byteRead isHex (drop at s))) (la : a < 16) (rb : b ≡ hexOr (byteRead (mayFollow a) (drop (at + 1) s))) where
@@ -149,7 +162,7 @@ module _ (s : List ℕ) (at end a b : ℕ) (ra : a ≡ hexOr (byteRead isHex (dr
   next : b < 16 → Digit (mayFollow (hexValue (first .0))) s (at + 1) (at + 2) b
   next h = subst⁻¹ (λ (v : ℕ). Digit (mayFollow v) s (at + 1) (at + 2) b) (first .2) (digit-to (mayFollow a) (follow-hex a) s (at + 1) (at + 2) b rb h (omega arith))
 
-  pub half-2 : 16 ≤ b → Bad (at + 1) ≡ num (readAt (half end) s at)
+  half-2 : 16 ≤ b → Bad (at + 1) ≡ num (readAt (half end) s at)
   half-2 k =
       refuses s at end (at + 1)
       (second-refuses (byte isHex) Second s at (first .0) (at + 1) (at + 1) (first .1)
@@ -163,14 +176,14 @@ module _ (s : List ℕ) (at end a b : ℕ) (ra : a ≡ hexOr (byteRead isHex (dr
       (second-refuses (byte isHex) Second s at (first .0) (at + 1) p (first .1)
       (second-refuses (byte (mayFollow (hexValue (first .0)))) (λ y. Third) s (at + 1) (next k .0) (at + 2) p (next k .1) e))
 
-  pub half-3 : (c : ℕ) → b < 16 → c ≡ hexOr (byteRead isHex (drop (at + 2) s)) → 16 ≤ c → Bad (at + 2) ≡ num (readAt (half end) s at)
+  half-3 : (c : ℕ) → b < 16 → c ≡ hexOr (byteRead isHex (drop (at + 2) s)) → 16 ≤ c → Bad (at + 2) ≡ num (readAt (half end) s at)
   half-3 c k rc l = third-bad (at + 2) k (first-refuses (byte isHex) (λ z. byte isHex) s (at + 2) (at + 2) (digit-bad isHex (λ y t. t) s (at + 2) c rc l))
 
   module _ (c d : ℕ) (lb : b < 16) (rc : c ≡ hexOr (byteRead isHex (drop (at + 2) s))) (lc : c < 16) (rd : d ≡ hexOr (byteRead isHex (drop (at + 3) s))) where
     third : Digit isHex s (at + 2) (at + 3) c
     third = digit-to isHex (λ y t. t) s (at + 2) (at + 3) c rc lc (omega arith)
 
-    pub half-4 : 16 ≤ d → Bad (at + 3) ≡ num (readAt (half end) s at)
+    half-4 : 16 ≤ d → Bad (at + 3) ≡ num (readAt (half end) s at)
     half-4 m = third-bad (at + 3) lb (second-refuses (byte isHex) (λ z. byte isHex) s (at + 2) (third .0) (at + 3) (at + 3) (third .1) (digit-bad isHex (λ y t. t) s (at + 3) d rd m))
 
     -- the four digits together
@@ -184,17 +197,69 @@ module _ (s : List ℕ) (at end a b : ℕ) (ra : a ≡ hexOr (byteRead isHex (dr
         (both-read (byte isHex) (λ z. byte isHex) s (at + 2) (third .0) (g .0) (at + 3) (at + 4) (third .1) (g .1))))
         ∙ rw (first .2, next lb .2, third .2, g .2)
 
-    pub half-5 : d < 16 → length s ≤ at + 4 → Bad (at + 4) ≡ num (readAt (half end) s at)
+    half-5 : d < 16 → length s ≤ at + 4 → Bad (at + 4) ≡ num (readAt (half end) s at)
     half-5 m o = sym (ap num (closed-last end Whole s at (((a * 16 + b) * 16 + c) * 16 + d) (at + 4) 0 (digits-read m) (sym (shared-out s (end ∷ []) (at + 4) o)) (omega arith)))
 
-    pub half-6 : d < 16 → at + 4 < length s → (getD s (at + 4) 0 ≡ end → ⊥) → Bad (at + 4) ≡ num (readAt (half end) s at)
+    half-6 : d < 16 → at + 4 < length s → (getD s (at + 4) 0 ≡ end → ⊥) → Bad (at + 4) ≡ num (readAt (half end) s at)
     half-6 m o e =
         sym (ap num (closed-last end Whole s at (((a * 16 + b) * 16 + c) * 16 + d) (at + 4) 0 (digits-read m)
         (rw (drop-here s (at + 4) o) (sym (shared-other (getD s (at + 4) 0) end (drop (at + 4 + 1) s) [] e))) (omega arith)))
 
-    pub half-7 : d < 16 → at + 4 < length s → getD s (at + 4) 0 ≡ end → Got (((a * 16 + b) * 16 + c) * 16 + d) (at + 5) ≡ num (readAt (half end) s at)
+    half-7 : d < 16 → at + 4 < length s → getD s (at + 4) 0 ≡ end → Got (((a * 16 + b) * 16 + c) * 16 + d) (at + 5) ≡ num (readAt (half end) s at)
     half-7 m o e =
         let v : ℕ = ((a * 16 + b) * 16 + c) * 16 + d in
         let z : at + 4 + 1 ≡ at + 5 = omega arith in
         let q : 1 ≡ shared (drop (at + 4) s) (end ∷ []) = rw (drop-here s (at + 4) o, e) (sym (shared-same end (drop (at + 4 + 1) s) [] ∙ rw (shared-nil (drop (at + 4 + 1) s)))) in
         sym (ap num (closed-reads end Whole s at v (at + 4) 1 (digits-read m) q (omega arith) ∙ ap (got v) z))
+
+-- ---- half_at, turn by turn
+
+module _ (s : List ℕ) (at : ℕ) where
+  -- i digits have the value v
+  abbrev pub Digits : ℕ → ℕ → Type 0
+  Digits zero v = v ≡ 0
+  Digits (suc i) v = (u : ℕ) × (w : ℕ) × Digits i u × (w ≡ hexOr (byteRead (digitOk i u) (drop (at + i) s))) × (w < 16) × (v ≡ u * 16 + w)
+
+  one : (v : ℕ) → Digits 1 v → (v ≡ hexOr (byteRead isHex (drop at s))) × (v < 16)
+  one v x =
+      let q : v ≡ x .1 = omega (arith, x .2, x .5) in
+      (q ∙ x .3 ∙ ap (λ (i : ℕ). hexOr (byteRead isHex (drop i s))) (add-zero at), omega (arith, q, x .4))
+
+  pub digits-more : (i v w : ℕ) → Digits i v → w ≡ hexOr (byteRead (digitOk i v) (drop (at + i) s)) → w < 16 → Digits (i + 1) (v * 16 + w)
+  digits-more i v w x e h = let q : i + 1 ≡ suc i = omega arith in subst⁻¹ (λ (k : ℕ). Digits k (v * 16 + w)) q (v, w, x, e, h, refl)
+
+  pub digits-small : (i v : ℕ) → i < 4 → Digits i v → v < 4096
+  digits-small zero v h x = omega (arith, x)
+  digits-small (suc zero) v h x = omega (arith, one v x .1)
+  digits-small (suc (suc zero)) v h x = omega (arith, x .4, x .5, one (x .0) (x .2) .1)
+  digits-small (suc (suc (suc zero))) v h x = let y = x .2 in omega (arith, x .4, x .5, y .4, y .5, one (y .0) (y .2) .1)
+  digits-small (suc (suc (suc (suc i)))) v h x = absurd (omega arith)
+
+  pub digits-stop : (end i v w : ℕ) → i < 4 → Digits i v → w ≡ hexOr (byteRead (digitOk i v) (drop (at + i) s)) → 16 ≤ w → Bad (at + i) ≡ num (readAt (half end) s at)
+  digits-stop end zero v w h x r k =
+      subst⁻¹ (λ (i : ℕ). Bad i ≡ num (readAt (half end) s at)) (add-zero at) (half-1 s at end w (r ∙ ap (λ (i : ℕ). hexOr (byteRead isHex (drop i s))) (add-zero at)) k)
+  digits-stop end (suc zero) v w h x r k = let a = one v x in half-2 s at end v w (a .0) (a .1) r k
+  digits-stop end (suc (suc zero)) v w h x r k = let a = one (x .0) (x .2) in half-3 s at end (x .0) (x .1) (a .0) (a .1) (x .3) w (x .4) r k
+  digits-stop end (suc (suc (suc zero))) v w h x r k =
+      let y = x .2 in
+      let a = one (y .0) (y .2) in
+      half-4 s at end (y .0) (y .1) (a .0) (a .1) (y .3) (x .1) w (y .4) (x .3) (x .4) r k
+  digits-stop end (suc (suc (suc (suc i)))) v w h x r k = absurd (omega arith)
+
+  module _ (end i v b : ℕ) (d : Digits i v) (l : i ≤ 4) (f : 4 ≤ i) (z : 0 < end) (e : b ≡ getD s (at + 4) 0) where
+    all : Digits 4 v
+    all = let q : i ≡ 4 = omega arith in subst (λ (k : ℕ). Digits k v) q d
+
+    pub half-open : (b ≡ end → ⊥) → Bad (at + 4) ≡ num (readAt (half end) s at)
+    half-open h = go (one (all .2 .2 .0) (all .2 .2 .2)) (decLt (at + 4) (length s))
+      where
+        go : (all .2 .2 .0 ≡ hexOr (byteRead isHex (drop at s))) × (all .2 .2 .0 < 16) → Dec (at + 4 < length s) → Bad (at + 4) ≡ num (readAt (half end) s at)
+        go a (yes o) = half-6 s at end (all .2 .2 .0) (all .2 .2 .1) (a .0) (a .1) (all .2 .2 .3) (all .2 .1) (all .1) (all .2 .2 .4) (all .2 .3) (all .2 .4) (all .3) (all .4) o (λ q. h (e ∙ q))
+        go a (no o) = half-5 s at end (all .2 .2 .0) (all .2 .2 .1) (a .0) (a .1) (all .2 .2 .3) (all .2 .1) (all .1) (all .2 .2 .4) (all .2 .3) (all .2 .4) (all .3) (all .4) (omega arith)
+
+    pub half-closed : b ≡ end → Got v (at + 5) ≡ num (readAt (half end) s at)
+    half-closed h =
+        let a = one (all .2 .2 .0) (all .2 .2 .2) in
+        let q : v ≡ ((all .2 .2 .0 * 16 + all .2 .2 .1) * 16 + all .2 .1) * 16 + all .1 = omega (arith, all .5, all .2 .5, all .2 .2 .5) in
+        ap (λ (x : ℕ). Got x (at + 5)) q
+        ∙ half-7 s at end (all .2 .2 .0) (all .2 .2 .1) (a .0) (a .1) (all .2 .2 .3) (all .2 .1) (all .1) (all .2 .2 .4) (all .2 .3) (all .2 .4) (all .3) (all .4) (inside s (at + 4) b (omega arith) e) (sym e ∙ h)

@@ -8,6 +8,7 @@ pub mod Places
 pub mod Positions
 pub mod HalfPlaces
 pub mod ItemPlaces
+pub mod Slots
 pub mod SignPlaces
 pub mod Stores
 pub mod SampleStores

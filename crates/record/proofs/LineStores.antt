@@ -10,11 +10,11 @@ use lib.ListN.{length, set, length-append}
 use lib.Seq.{sets}
 use lib.Dec.{eqb, leb, ltb}
 use Rattle.transform.specs.Kinds.{widthOf, heightOf}
-use Rattle.record.specs.Format.{Format, seqs, closed, after}
+use Rattle.record.specs.Format.{Format, seqs}
 use Rattle.record.specs.Text.{bytes}
 use Rattle.record.specs.Number.{digits, number}
 use Rattle.record.specs.Half.{half, hexByte}
-use Rattle.record.specs.Record.{items, line, digit, header, heading, orders, modeOk, modeLines}
+use Rattle.record.specs.Record.{items, line, header, heading, orders, modeLines}
 use Rattle.record.specs.Stored.{Stored, Items, Line}
 use Rattle.record.proofs.Stores.{Put, put-start, put-byte, put-text, digits-length}
 use Rattle.record.proofs.ItemStores.{Wrote, wrote-all}
@@ -75,20 +75,7 @@ module _ {A : Type 0} (name : List ℕ) (d : A) (F : ℕ → Format A) (src : Li
         short = omega (arith, g .short);
       }
 
--- ---- a digit between fixed bytes
-
-pub framed-stored : (o o₁ o₂ o₃ : List ℕ) (at p r : ℕ) (w v : List ℕ) (ok : ℕ → Bool) (n : ℕ) → p ≡ at + length w → o₁ ≡ sets o at w → o₂ ≡ set o₁ p (48 + n) → r ≡ p + 1 + length v → o₃ ≡ sets o₂ (p + 1) v
-    → Put o at (closed v (after w (digit ok)) .write n) o₃ r
-framed-stored o o₁ o₂ o₃ at p r w v ok n k e g j i =
-    let x : Put o at ([] ++ w) o₁ p = put-text o at [] o at w o₁ p (put-start o at) k e in
-    let y : Put o at (w ++ ((48 + n) ∷ [])) o₂ (p + 1) = put-byte o at w o₁ p (48 + n) o₂ x g in
-    put-text o at (w ++ ((48 + n) ∷ [])) o₂ (p + 1) v o₃ r y j i
-
-pub header-stored : (o o₁ o₂ o₃ : List ℕ) (p r n : ℕ) → p ≡ 0 + length (bytes "default=") → o₁ ≡ sets o 0 (bytes "default=") → o₂ ≡ set o₁ p (48 + n) → r ≡ p + 1 + length (bytes "\n") → o₃ ≡ sets o₂ (p + 1) (bytes "\n")
-    → Stored (header .write n) o o₃ 0 r 10
-header-stored o o₁ o₂ o₃ p r n k e g j i =
-    let x : Put o 0 (header .write n) o₃ r = framed-stored o o₁ o₂ o₃ 0 p r (bytes "default=") (bytes "\n") (λ d. leb d 1) n k e g j i in
-    record { place = x .place; bytes = x .bytes; short = omega (arith, k, j) }
+-- ---- lines of fixed bytes
 
 orders-length : (k : ℕ) → length (orders k) ≡ 12
 orders-length k = go (ℕ-discrete (widthOf k) (heightOf k))
@@ -104,19 +91,18 @@ heading-length k = go (decLt k 10)
     go (yes e) = rw (lt-ltb k 10 e) (omega arith)
     go (no e) = rw (le-ltb k 10 (omega arith)) (omega arith)
 
-pub heading-stored : (o o₁ : List ℕ) (at r k : ℕ) (w : List ℕ) → w ≡ heading k → r ≡ at + length w → o₁ ≡ sets o at w → Stored (heading k) o o₁ at r 13
-heading-stored o o₁ at r k w e j i = record {
+pub first-short : (n : ℕ) → length (header .write n) ≤ 10
+first-short n = omega arith
+
+pub lines-short : (k m : ℕ) → length (modeLines k .write m) ≤ 26
+lines-short k m = omega (arith, length-append (heading k ++ ((48 + m) ∷ [])) (orders k), length-append (heading k) ((48 + m) ∷ []), orders-length k, heading-length k)
+
+pub text-stored : (o o₁ : List ℕ) (at r m : ℕ) (w t : List ℕ) → length t ≤ m → w ≡ t → r ≡ at + length w → o₁ ≡ sets o at w → Stored t o o₁ at r m
+text-stored o o₁ at r m w t h e j i = record {
   place = j ∙ ap (λ (t : List ℕ). at + length t) e;
   bytes = i ∙ ap (sets o at) e;
-  short = omega (arith, j, ap length e, heading-length k);
+  short = omega (arith, j, ap length e, h);
 }
-
-pub mode-stored : (o o₁ o₂ o₃ : List ℕ) (at p r k m : ℕ) (v : List ℕ) → Stored (heading k) o o₁ at p 13 → o₂ ≡ set o₁ p (48 + m) → v ≡ orders k → r ≡ p + 1 + length v → o₃ ≡ sets o₂ (p + 1) v
-    → Stored (modeLines k .write m) o o₃ at r 26
-mode-stored o o₁ o₂ o₃ at p r k m v h g e j i =
-    let x : Put o at (modeLines k .write m) o₃ r =
-    framed-stored o o₁ o₂ o₃ at p r (heading k) (orders k) (modeOk k) m (h .place) (h .bytes) g (j ∙ ap (λ (t : List ℕ). p + 1 + length t) e) (i ∙ ap (sets o₂ (p + 1)) e) in
-    record { place = x .place; bytes = x .bytes; short = omega (arith, h .short, j, ap length e, orders-length k) }
 
 -- the digits of a half float and the byte behind it
 pub half-text : (o o' : List ℕ) (at v end a b c d r : ℕ) → a ≡ hexByte (v / 4096) → b ≡ hexByte (v / 256 % 16) → c ≡ hexByte (v / 16 % 16) → d ≡ hexByte (v % 16)

@@ -81,67 +81,93 @@ at-start {A} F s = go (F .read s)
     go (got a n) = ap (got a) (zero-add n)
     go (bad n) = ap bad (zero-add n)
 
+-- the answer, from the position that the walk reached
+module _ (l : ℕ) (s : List ℕ) (r : scan.Scan) (g : r ≡ seen (readAt flatFormat s 0)) where
+  pub answer-bad : (q : ℕ) → r ≡ scans.Bad q → takes.Text q ≡ readIs l (whole flatFormat s)
+  answer-bad q j = sym (ap (λ (x : Answer Flat). readIs l (wholeOf (length s) x)) (sym (at-start flatFormat s) ∙ seen-bad (readAt flatFormat s 0) r q g j))
+
+  module _ (q : ℕ) (j : r ≡ scans.Got q) where
+    value : (f : Flat) × (readAt flatFormat s 0 ≡ got f q)
+    value = seen-got (readAt flatFormat s 0) r q g j
+
+    reading : whole flatFormat s ≡ pick (ltb q (length s)) (text q) (done (value .0))
+    reading = ap (wholeOf (length s)) (sym (at-start flatFormat s) ∙ value .1)
+
+    pub answer-more : q < length s → takes.Text q ≡ readIs l (whole flatFormat s)
+    answer-more h = let x : whole flatFormat s ≡ text q = reading ∙ rw (lt-ltb q (length s) h) in sym (ap (readIs l) x)
+
+    module _ (h : length s ≤ q) (first : List ℕ) (a a' : List ℤ) (st : (f : Flat) (q : ℕ) → readAt flatFormat s 0 ≡ got f q → FlatStored first a a' f) (c : Bool) (i : c ≡ (anyRaw first && eqb l 0)) where
+      answered : readIs l (whole flatFormat s) ≡ pick c (takes.Room 394752) takes.Done
+      answered =
+          let x : whole flatFormat s ≡ done (value .0) = reading ∙ rw (le-ltb q (length s) h) in
+          ap (readIs l) x
+          ∙ ap (λ (t : Bool). pick t (takes.Room 394752) takes.Done) (sym (i ∙ ap (λ (x : List ℕ). anyRaw x && eqb l 0) (st (value .0) q (value .1) .0)))
+
+      pub answer-room : c ≡ true → takes.Room 394752 ≡ readIs l (whole flatFormat s)
+      answer-room z = sym (answered ∙ ap (λ (t : Bool). pick t (takes.Room 394752) takes.Done) z)
+
+      pub answer-done : c ≡ false → takes.Done ≡ readIs l (whole flatFormat s)
+      answer-done z = sym (answered ∙ ap (λ (t : Bool). pick t (takes.Room 394752) takes.Done) z)
+
 -- a part of no elements, lent and given back, leaves the whole as it was
 pub none-before : {A : Type 0} (e x : List A) → length e ≡ 0 → e ++ x ≡ x
 none-before [] x h = refl
 none-before (a ∷ e) x h = absurd (let q : suc (length e) ≡ 0 = h in omega arith)
+
+-- what was read where the answer is DONE
+abbrev Value : Answer Flat → Reading Flat → Type 0
+Value y w = (f : Flat) × (q : ℕ) × (y ≡ got f q) × (w ≡ done f)
+
+done-value : (l n : ℕ) (y : Answer Flat) → readIs l (wholeOf n y) ≡ takes.Done → Value y (wholeOf n y)
+done-value l n (got f q) e = go (ltb q n) refl
+  where
+    go : (b : Bool) → ltb q n ≡ b → Value (got f q) (wholeOf n (got f q))
+    go true h = absurd (let k : takes.Text q ≡ takes.Done = sym (ap (λ (b : Bool). readIs l (pick b (text q) (done f))) h) ∙ e in let z : _≡_ {A = ℕ} 0 1 = cc in omega arith)
+    go false h = (f, q, refl, rw h)
+done-value l n (bad q) e = absurd (let z : _≡_ {A = ℕ} 0 1 = cc in omega arith)
 
 module _ (rows : List ℕ) (samples : List ℤ) (s : List ℕ) where
   -- what the call owes
   abbrev Owes : taken.Taken → List ℕ → List ℤ → Type 0
   Owes r rows' samples' = (r ≡ readAnswer (length rows) (length samples) s) × ((rows' ≡ rowsAfter rows (length samples) s) × (samples' ≡ samplesAfter (length rows) samples s))
 
-  owes-kept : (r : taken.Taken) (samples' : List ℤ) → readAnswer (length rows) (length samples) s ≡ r → ((x : Reading Flat) → rowsLeft r x rows ≡ rows) → ((x : Reading Flat) → samplesLeft r x samples ≡ samples) → samples' ≡ samples → Owes r rows samples'
+  owes-kept : (r : taken.Taken) → readAnswer (length rows) (length samples) s ≡ r → ((x : Reading Flat) → rowsLeft r x rows ≡ rows) → ((x : Reading Flat) → samplesLeft r x samples ≡ samples) → Owes r rows samples
   unfolding rowsAfter samplesAfter
-  owes-kept r samples' e f g h = (
+  owes-kept r e f g = (
     sym e,
     (
       sym (ap (λ (y : taken.Taken). rowsLeft y (whole flatFormat s) rows) e ∙ f (whole flatFormat s)),
-      h ∙ sym (ap (λ (y : taken.Taken). samplesLeft y (whole flatFormat s) samples) e ∙ g (whole flatFormat s)),
+      sym (ap (λ (y : taken.Taken). samplesLeft y (whole flatFormat s) samples) e ∙ g (whole flatFormat s)),
     ),
   )
 
   pub read-lent : (b : Bool) → b ≡ readLent (length rows) (length samples) → b ≡ true → Owes takes.Lent rows samples
   unfolding readAnswer
-  read-lent b e k = owes-kept takes.Lent samples (rw (sym e, k)) (λ x. refl) (λ x. refl) refl
+  read-lent b e k = owes-kept takes.Lent (rw (sym e, k)) (λ x. refl) (λ x. refl)
 
-  module _ (b : Bool) (e : b ≡ readLent (length rows) (length samples)) (k : b ≡ false) (r : scan.Scan) (g : r ≡ seen (readAt flatFormat s 0)) where
-    answer-is : (x : Reading Flat) → whole flatFormat s ≡ x → readAnswer (length rows) (length samples) s ≡ readIs (length samples) x
+  module _ (b : Bool) (e : b ≡ readLent (length rows) (length samples)) (k : b ≡ false) (r : taken.Taken) (g : r ≡ readIs (length samples) (whole flatFormat s)) where
+    answer-is : readAnswer (length rows) (length samples) s ≡ r
     unfolding readAnswer
-    answer-is x h = rw (sym e, k) (ap (readIs (length samples)) h)
+    answer-is = rw (sym e, k) (sym g)
 
-    pub read-bad : (q : ℕ) (samples' : List ℤ) → r ≡ scans.Bad q → samples' ≡ samples → Owes (takes.Text q) rows samples'
-    read-bad q samples' j h =
-        owes-kept (takes.Text q) samples' (answer-is (text q) (ap (wholeOf (length s)) (sym (at-start flatFormat s) ∙ seen-bad (readAt flatFormat s 0) r q g j))) (λ x. refl) (λ x. refl) h
+    pub read-other : (r ≡ takes.Done → ⊥) → Owes r rows samples
+    read-other h = go r answer-is h
+      where
+        go : (x : taken.Taken) → readAnswer (length rows) (length samples) s ≡ x → (x ≡ takes.Done → ⊥) → Owes x rows samples
+        go takes.Done a n = absurd (n refl)
+        go takes.Lent a n = owes-kept takes.Lent a (λ x. refl) (λ x. refl)
+        go (takes.Room l) a n = owes-kept (takes.Room l) a (λ x. refl) (λ x. refl)
+        go (takes.Text l) a n = owes-kept (takes.Text l) a (λ x. refl) (λ x. refl)
 
-    module _ (q : ℕ) (j : r ≡ scans.Got q) where
-      value : (f : Flat) × (readAt flatFormat s 0 ≡ got f q)
-      value = seen-got (readAt flatFormat s 0) r q g j
-
-      reading : whole flatFormat s ≡ pick (ltb q (length s)) (text q) (done (value .0))
-      reading = ap (wholeOf (length s)) (sym (at-start flatFormat s) ∙ value .1)
-
-      pub read-more : (samples' : List ℤ) → q < length s → samples' ≡ samples → Owes (takes.Text q) rows samples'
-      read-more samples' l h = owes-kept (takes.Text q) samples' (answer-is (text q) (reading ∙ rw (lt-ltb q (length s) l))) (λ x. refl) (λ x. refl) h
-
-      module _ (l : length s ≤ q) (first : List ℕ) (a a' : List ℤ) (st : (f : Flat) (q : ℕ) → readAt flatFormat s 0 ≡ got f q → FlatStored first a a' f) (c : Bool) (i : c ≡ (anyRaw first && eqb (length samples) 0)) where
-        finished : whole flatFormat s ≡ done (value .0)
-        finished = reading ∙ rw (le-ltb q (length s) l)
-
-        answered : readAnswer (length rows) (length samples) s ≡ pick c (takes.Room 394752) takes.Done
-        answered = answer-is (done (value .0)) finished ∙ ap (λ (t : Bool). pick t (takes.Room 394752) takes.Done) (sym (i ∙ ap (λ (x : List ℕ). anyRaw x && eqb (length samples) 0) (st (value .0) q (value .1) .0)))
-
-        pub read-room : (samples' : List ℤ) → c ≡ true → samples' ≡ samples → Owes (takes.Room 394752) rows samples'
-        read-room samples' z h = owes-kept (takes.Room 394752) samples' (answered ∙ ap (λ (t : Bool). pick t (takes.Room 394752) takes.Done) z) (λ x. refl) (λ x. refl) h
-
-        pub read-done : c ≡ false → (rows' : List ℕ) (samples₁ samples' : List ℤ) → samples₁ ≡ samples → ((f : Flat) (q : ℕ) → readAt flatFormat s 0 ≡ got f q → FlatStored rows' samples₁ samples' f) → Owes takes.Done rows' samples'
-        unfolding rowsAfter samplesAfter
-        read-done z rows' samples₁ samples' h st₂ =
-            let n : readAnswer (length rows) (length samples) s ≡ takes.Done = answered ∙ ap (λ (t : Bool). pick t (takes.Room 394752) takes.Done) z in
-            let w : FlatStored rows' samples₁ samples' (value .0) = st₂ (value .0) q (value .1) in (
-              sym n,
-              (
-                w .0 ∙ sym (λ t. rowsLeft (n t) (finished t) rows),
-                w .1 ∙ ap (storeParts 0 (value .0 .1)) h ∙ sym (λ t. samplesLeft (n t) (finished t) samples),
-              ),
-            )
+    pub read-done : r ≡ takes.Done → (rows' : List ℕ) (samples' : List ℤ) → ((f : Flat) (q : ℕ) → readAt flatFormat s 0 ≡ got f q → FlatStored rows' samples samples' f) → Owes takes.Done rows' samples'
+    unfolding rowsAfter samplesAfter
+    read-done z rows' samples' st =
+        let n : readAnswer (length rows) (length samples) s ≡ takes.Done = answer-is ∙ z in
+        let v = done-value (length samples) (length s) (flatFormat .read s) (sym g ∙ z) in
+        let w : FlatStored rows' samples samples' (v .0) = st (v .0) (v .1) (at-start flatFormat s ∙ v .2) in (
+          sym n,
+          (
+            w .0 ∙ sym (λ t. rowsLeft (n t) (v .3 t) rows),
+            w .1 ∙ sym (λ t. samplesLeft (n t) (v .3 t) samples),
+          ),
+        )

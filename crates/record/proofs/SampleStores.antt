@@ -13,7 +13,7 @@ use lib.Signed.{ltZ}
 use lib.ListN.{length, set}
 use lib.Seq.{sets}
 use lib.Dec.{T, eqb}
-use Rattle.record.specs.Number.{digits, signed, isZero, isMinus}
+use Rattle.record.specs.Number.{number, digits, signed, isZero, isMinus}
 use Rattle.record.proofs.SignPlaces.{kept-size, below-of, above-of}
 use Rattle.record.proofs.Stores.{Put, put-start, put-byte, put-text}
 
@@ -41,23 +41,16 @@ module _ (o : List ℕ) (at end : ℕ) (v : ℤ) (f : SFits w32 v) (m : ℕ) (k 
   size : natAbs v ≡ m
   size = sym (k ∙ kept-size v f)
 
-  pub wrote-zero : (o₁ o₂ : List ℕ) → m ≡ 0 → o₁ ≡ set o at 48 → o₂ ≡ set o₁ (at + 1) end → (at + 2 ≡ at + length (signed end .write v)) × (o₂ ≡ sets o at (signed end .write v))
-  wrote-zero o₁ o₂ h e g =
-      let x : Put o at ([] ++ (48 ∷ [])) o₁ (at + 1) = put-byte o at [] o at 48 o₁ (put-start o at) e in
-      let y : Put o at (48 ∷ end ∷ []) o₂ (at + 1 + 1) = put-byte o at (48 ∷ []) o₁ (at + 1) end o₂ x g in
-      rw (text-zero end v (size ∙ h)) (omega arith, y .bytes)
+  pub wrote-zero : (o₁ : List ℕ) (r : ℕ) → m ≡ 0 → r ≡ at + 2 → o₁ ≡ sets o at (48 ∷ end ∷ []) → (r ≡ at + length (signed end .write v)) × (o₁ ≡ sets o at (signed end .write v))
+  wrote-zero o₁ r h e g = rw (text-zero end v (size ∙ h)) (e, g)
 
-  pub wrote-minus : (o₁ o₂ o₃ : List ℕ) (p : ℕ) → ltZ (toZ w32 (ofZ w32 v)) (pos 0) ≡ true → o₁ ≡ set o at 45 → p ≡ at + 1 + length (digits m) → o₂ ≡ sets o₁ (at + 1) (digits m) → o₃ ≡ set o₂ p end
-      → (p + 1 ≡ at + length (signed end .write v)) × (o₃ ≡ sets o at (signed end .write v))
-  wrote-minus o₁ o₂ o₃ p t e g q j =
+  pub wrote-minus : (o₁ o₂ : List ℕ) (r : ℕ) → ltZ (toZ w32 (ofZ w32 v)) (pos 0) ≡ true → o₁ ≡ set o at 45 → r ≡ at + 1 + length (number 16 end .write m) → o₂ ≡ sets o₁ (at + 1) (number 16 end .write m)
+      → (r ≡ at + length (signed end .write v)) × (o₂ ≡ sets o at (signed end .write v))
+  wrote-minus o₁ o₂ r t e g q =
       let x : Put o at (45 ∷ []) o₁ (at + 1) = put-byte o at [] o at 45 o₁ (put-start o at) e in
-      let y : Put o at ((45 ∷ []) ++ digits m) o₂ p = put-text o at (45 ∷ []) o₁ (at + 1) (digits m) o₂ p x g q in
-      let z : Put o at (((45 ∷ []) ++ digits m) ++ (end ∷ [])) o₃ (p + 1) = put-byte o at ((45 ∷ []) ++ digits m) o₂ p end o₃ y j in
-      rw (text-minus end v (below-of v f t), size) (z .place, z .bytes)
+      let y : Put o at ((45 ∷ []) ++ (digits m ++ (end ∷ []))) o₂ r = put-text o at (45 ∷ []) o₁ (at + 1) (digits m ++ (end ∷ [])) o₂ r x g q in
+      rw (text-minus end v (below-of v f t), size) (y .place, y .bytes)
 
-  pub wrote-plus : (o₁ o₂ : List ℕ) (p : ℕ) → (m ≡ 0 → ⊥) → ltZ (toZ w32 (ofZ w32 v)) (pos 0) ≡ false → p ≡ at + length (digits m) → o₁ ≡ sets o at (digits m) → o₂ ≡ set o₁ p end
-      → (p + 1 ≡ at + length (signed end .write v)) × (o₂ ≡ sets o at (signed end .write v))
-  wrote-plus o₁ o₂ p h t g q j =
-      let y : Put o at ([] ++ digits m) o₁ p = put-text o at [] o at (digits m) o₁ p (put-start o at) g q in
-      let z : Put o at (digits m ++ (end ∷ [])) o₂ (p + 1) = put-byte o at (digits m) o₁ p end o₂ y j in
-      rw (text-plus end v (λ e. h (sym size ∙ e)) (above-of v f t), size) (z .place, z .bytes)
+  pub wrote-plus : (o₁ : List ℕ) (r : ℕ) → (m ≡ 0 → ⊥) → ltZ (toZ w32 (ofZ w32 v)) (pos 0) ≡ false → r ≡ at + length (number 16 end .write m) → o₁ ≡ sets o at (number 16 end .write m)
+      → (r ≡ at + length (signed end .write v)) × (o₁ ≡ sets o at (signed end .write v))
+  wrote-plus o₁ r h t g q = rw (text-plus end v (λ e. h (sym size ∙ e)) (above-of v f t), size) (g, q)

@@ -20,8 +20,8 @@ use Rattle.params.specs.Allowed.{rowAt, modeAt, entryRow, flagRow, rowAllowed, 
 use Rattle.params.proofs.AllowedLaws.{and-true}
 use Rattle.params.proofs.FaultLaws.{fault-rows}
 use Rattle.record.specs.Format.{Format, pick, seqs, nothing}
-use Rattle.record.specs.Record.{sampleCount, header}
-use Rattle.record.specs.Rows.{Row, rowFormat, rowFormats, allKinds, kindLines, rowsFormat}
+use Rattle.record.specs.Record.{sampleCount, header, modeLines, parts}
+use Rattle.record.specs.Rows.{Row, entryOf, rowFormat, rowFormats, allKinds, kindLines, rowsFormat}
 use Rattle.record.specs.Flat.{cutRows, flatFormat}
 use Rattle.record.specs.Description.{isRaw, anyRaw, lentFault, partOf, rawParts, describe, recordOf, fits32, Each}
 use Rattle.record.specs.Stored.{Stored, Ready, Checked, kindText, kindTexts}
@@ -36,7 +36,7 @@ use mir.Val.{Fits}
 use Rattle.record.proofs.Stores.{Put, put-start, put-text}
 use Rattle.record.proofs.FlatLaws.{row-good}
 use Rattle.record.proofs.OkLaws.{each-take, each-drop, each-of, entry-ok}
-use Rattle.record.proofs.KindStores.{ready}
+use Rattle.record.proofs.KindStores.{ready, row-stored}
 use Rattle.record.proofs.ReadPlaces.{noRaw}
 
 -- ---- what a set's check says of each kind
@@ -221,19 +221,54 @@ module _ (rows : List ℕ) (samples : List ℤ) (a : Checked rows samples) where
     stored-of : (x : Row) → x ≡ (rowAt rows k, pick (isRaw rows k) (partOf samples k) []) → (o o' : List ℕ) (at r m : ℕ) → Stored (rowFormat k .write x) o o' at r m → Stored (kindText rows samples k) o o' at r m
     stored-of x e o o' at r m g = subst (λ (y : Row). Stored (rowFormat k .write y) o o' at r m) e g
 
-    pub ready-raw : getD rows (k * 128) 0 ≡ 7 → (s n : ℕ) → s ≡ startOf k → n ≡ placesOf k → Ready k (take (k * 128 + 128 - k * 128) (drop (k * 128) rows)) (take (s + n - s) (drop s samples))
-    ready-raw e s n i j = ready-of (take (k * 128 + 128 - k * 128) (drop (k * 128) rows), take (s + n - s) (drop s samples)) (text-raw e s n i j)
+    pub kind-mode : getD rows (k * 128) 0 < 8
+    kind-mode =
+        let z : k * 128 + 0 ≡ k * 128 = omega arith in
+        subst (λ (x : ℕ). x < 8) (row-first rows k 0 (omega arith) ∙ ap (λ (x : ℕ). getD rows x 0) z) (kind-ready rows samples a f k h .mode)
 
-    pub ready-else : (getD rows (k * 128) 0 ≡ 7 → ⊥) → Ready k (take (k * 128 + 128 - k * 128) (drop (k * 128) rows)) []
-    ready-else e = ready-of (take (k * 128 + 128 - k * 128) (drop (k * 128) rows), []) (text-else e)
+    module _ (m : ℕ) (q : m ≡ getD rows (k * 128) 0) (s n : ℕ) (i : s ≡ pick (eqb m 7) (startOf k) 0) (j : n ≡ sampleCount k m) where
+      start-raw : getD rows (k * 128) 0 ≡ 7 → (s ≡ startOf k) × (n ≡ placesOf k)
+      start-raw e = (i ∙ rw (eq-eqb m 7 (q ∙ e)), j ∙ rw (eq-eqb m 7 (q ∙ e)))
 
-    pub stored-raw : getD rows (k * 128) 0 ≡ 7 → (s n : ℕ) → s ≡ startOf k → n ≡ placesOf k → (o o' : List ℕ) (at r : ℕ)
-        → Stored (rowFormat k .write (take (k * 128 + 128 - k * 128) (drop (k * 128) rows), take (s + n - s) (drop s samples))) o o' at r 1000000000000026 → Stored (kindText rows samples k) o o' at r 1000000000000026
-    stored-raw e s n i j o o' at r g = stored-of (take (k * 128 + 128 - k * 128) (drop (k * 128) rows), take (s + n - s) (drop s samples)) (text-raw e s n i j) o o' at r 1000000000000026 g
+      start-else : (getD rows (k * 128) 0 ≡ 7 → ⊥) → (s ≡ 0) × (n ≡ 0)
+      start-else e = (i ∙ rw (ne-eqb m 7 (λ z. e (sym q ∙ z))), j ∙ rw (ne-eqb m 7 (λ z. e (sym q ∙ z))))
 
-    pub stored-else : (getD rows (k * 128) 0 ≡ 7 → ⊥) → (o o' : List ℕ) (at r : ℕ)
-        → Stored (rowFormat k .write (take (k * 128 + 128 - k * 128) (drop (k * 128) rows), [])) o o' at r 1000000000000026 → Stored (kindText rows samples k) o o' at r 1000000000000026
-    stored-else e o o' at r g = stored-of (take (k * 128 + 128 - k * 128) (drop (k * 128) rows), []) (text-else e) o o' at r 1000000000000026 g
+      pub kind-room : s + n ≤ length samples
+      kind-room = go (ℕ-discrete (getD rows (k * 128) 0) 7)
+        where
+          go : Dec (getD rows (k * 128) 0 ≡ 7) → s + n ≤ length samples
+          go (yes e) = omega (arith, start-raw e .0, start-raw e .1, end-le k, raw-room k h e)
+          go (no e) = omega (arith, start-else e .0, start-else e .1)
+
+      pub kind-few : s + n ≤ 394752
+      kind-few = go (ℕ-discrete (getD rows (k * 128) 0) 7)
+        where
+          go : Dec (getD rows (k * 128) 0 ≡ 7) → s + n ≤ 394752
+          go (yes e) = omega (arith, start-raw e .0, start-raw e .1, end-le k)
+          go (no e) = omega (arith, start-else e .0, start-else e .1)
+
+      part-is : _≡_ {A = Row} (take (k * 128 + 128 - k * 128) (drop (k * 128) rows), take (s + n - s) (drop s samples)) (rowAt rows k, pick (isRaw rows k) (partOf samples k) [])
+      part-is = go (ℕ-discrete (getD rows (k * 128) 0) 7)
+        where
+          go : Dec (getD rows (k * 128) 0 ≡ 7) → _≡_ {A = Row} (take (k * 128 + 128 - k * 128) (drop (k * 128) rows), take (s + n - s) (drop s samples)) (rowAt rows k, pick (isRaw rows k) (partOf samples k) [])
+          go (yes e) = text-raw e s n (start-raw e .0) (start-raw e .1)
+          go (no e) =
+              let z : s + n - s ≡ 0 = omega (arith, start-else e .1) in
+              let w : take (s + n - s) (drop s samples) ≡ [] = ap (λ (x : ℕ). take x (drop s samples)) z in
+              (λ y. (take (k * 128 + 128 - k * 128) (drop (k * 128) rows), w y)) ∙ text-else e
+
+      pub kind-part : Ready k (take (k * 128 + 128 - k * 128) (drop (k * 128) rows)) (take (s + n - s) (drop s samples))
+      kind-part = ready-of (take (k * 128 + 128 - k * 128) (drop (k * 128) rows), take (s + n - s) (drop s samples)) part-is
+
+      first-is : m ≡ getD (take (k * 128 + 128 - k * 128) (drop (k * 128) rows)) 0 0
+      first-is = let z : k * 128 + 0 ≡ k * 128 = omega arith in q ∙ sym (ap (λ (l : List ℕ). getD l 0 0) (row-part rows k) ∙ row-first rows k 0 (omega arith) ∙ ap (λ (x : ℕ). getD rows x 0) z)
+
+      pub kind-put : (o o₁ o₂ : List ℕ) (at p r : ℕ) → Stored (modeLines k .write m) o o₁ at p 26
+          → Stored (parts k (getD (take (k * 128 + 128 - k * 128) (drop (k * 128) rows)) 0 0) .write (entryOf (take (k * 128 + 128 - k * 128) (drop (k * 128) rows), take (s + n - s) (drop s samples)) .1)) o₁ o₂ p r 1000000000000000
+          → Stored (kindText rows samples k) o o₂ at r 1000000000000026
+      kind-put o o₁ o₂ at p r g x =
+          stored-of (take (k * 128 + 128 - k * 128) (drop (k * 128) rows), take (s + n - s) (drop s samples)) part-is o o₂ at r 1000000000000026
+          (row-stored k (take (k * 128 + 128 - k * 128) (drop (k * 128) rows)) (take (s + n - s) (drop s samples)) at p r o o₁ o₂ (subst (λ (y : ℕ). Stored (modeLines k .write y) o o₁ at p 26) first-is g) x)
 
 -- ---- put_kinds
 

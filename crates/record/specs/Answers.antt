@@ -1,16 +1,21 @@
 -- Views that only contracts of private functions need: a format read at a position of a text, and its answer as the enum that the code gives. Assumes nothing.
 use mathlib.Core.Path.{_≡_}
 use mathlib.Core.List.{List}
-use Prim.Native.Nat.{ℕ, _+_, _*_}
+use mathlib.Core.Bool.{Bool}
+use Prim.Native.Nat.{ℕ, _+_, _-_, _*_}
 use lib.IntN.{ℤ}
 use lib.ListN.{length, getD, set, drop}
 use lib.Seq.{sets}
+use lib.Dec.{eqb}
 use Rattle.transform.specs.Kinds.{startOf}
 use Rattle.record.specs.Record.{Entry}
 use Rattle.record.specs.Rows.{Row}
 use Rattle.record.specs.Flat.{Flat, joinRows, samplesOf}
 use Rattle.record.specs.Description.{storeParts}
-use Rattle.record.specs.Format.{Answer, got, bad, Format}
+use Rattle.record.specs.Format.{Answer, got, bad, pick, Format}
+use Rattle.record.specs.Number.{both, isDigit, number}
+use Rattle.record.specs.Half.{isHex, mayFollow, half}
+use Rattle.record.specs.Text.{bytes}
 use Rattle.record.specs.declared.piece.Num.{Num}
 use Rattle.record.specs.declared.piece.Num.the-variants.{Got, Bad}
 use Rattle.record.specs.declared.piece.Sample as sample
@@ -41,6 +46,26 @@ sampleOf (bad n) = samples.Bad n
 abbrev pub seen : {A : Type 0} → Answer A → scan.Scan
 seen (got v n) = scans.Got n
 seen (bad n) = scans.Bad n
+
+-- the same with a value that is known
+abbrev pub toldOf : ℕ → scan.Scan → Num
+toldOf v (scans.Got n) = Got v n
+toldOf v (scans.Bad n) = Bad n
+
+-- the digit that a byte is, or 0 where it is none of some
+abbrev pub digitOr : (ℕ → Bool) → ℕ → ℕ
+digitOr ok b = pick (both (isDigit b) (ok (b - 48))) (b - 48) 0
+
+-- what digit k of a half float may be, where those before it have the value v
+abbrev pub digitOk : ℕ → ℕ → ℕ → Bool
+digitOk k v = pick (eqb k 1) (mayFollow v) isHex
+
+-- a band count or a half float, and the name of the line
+abbrev pub slot : Bool → ℕ → Format ℕ
+slot hex end = pick hex (half end) (number 16 end)
+
+abbrev pub slotName : Bool → List ℕ
+slotName hex = pick hex (bytes "numbers=") (bytes "bands=")
 
 -- a row in hand: 128 slots, and no band count yet
 pub record Fresh (row : List ℕ) : Type 0 where

@@ -5,54 +5,49 @@ use crate::fixed::SAMPLES;
 use crate::fixed::mode_at;
 use crate::piece::Num;
 use crate::piece::Scan;
-use crate::piece::counts;
 use crate::piece::fixed_at;
-use crate::piece::halves;
 use crate::piece::put_u16;
 use crate::piece::samples;
+use crate::piece::slots;
 use transform::Kind;
 ghost use mathlib.Core.Path.{_≡_};
 ghost use mathlib.Core.List.{List};
 ghost use Prim.Native.Nat.{ℕ, _+_, _*_, _≤_, _<_};
 ghost use lib.ListN.{length, getD, set};
 ghost use lib.Seq.{sets};
+ghost use lib.Dec.{eqb};
 ghost use lib.IntN.{ℤ, pos};
 ghost use Rattle.transform.specs.Kinds.{startOf};
 ghost use Rattle.params.specs.Row.{fixed};
-ghost use Rattle.record.specs.Format.{got};
+ghost use Rattle.record.specs.Format.{got, lit, pick};
 ghost use Rattle.record.specs.Text.{bytes};
-ghost use Rattle.record.specs.Number.{number, signed};
-ghost use Rattle.record.specs.Half.{half};
+ghost use Rattle.record.specs.Number.{signed};
 ghost use Rattle.record.specs.Record.{Entry, line, sampleCount, parts, entry};
 ghost use Rattle.record.specs.Rows.{Row, rowFormat};
-ghost use Rattle.record.specs.Answers.{readAt, seen, Fresh, PartsStored, EntryStored, RowStored};
+ghost use Rattle.record.specs.Answers.{readAt, seen, slot, slotName, Fresh, PartsStored, EntryStored, RowStored};
 
-// The line of n band counts, where there is one, stored from a place on.
-fn bands_at(s: &[u8], at: usize, n: usize, out: &mut [u16], place: usize) -> Scan
-    requires { ⌜ (at ≤ length (now s)) × (place + n < 4294967296) ⌝ }
-    ensures scanned { λ r. ⌜ r ≡ seen (readAt (line (bytes "bands=") 0 (number 16) n) (now (s .entry)) at) ⌝ }
-    ensures stored { λ r. ⌜ ((vs : List ℕ) (q : ℕ) → readAt (line (bytes "bands=") 0 (number 16) n) (now (s .entry)) at ≡ got vs q → now (out .exit) ≡ sets (now (out .entry)) place vs) ⌝ }
+// The name of the line of band counts or, where hex says so, of half floats.
+fn name_at(s: &[u8], at: usize, hex: bool) -> Scan
+    requires { ⌜ at ≤ length (now s) ⌝ }
+    ensures { λ r. ⌜ r ≡ seen (readAt (lit (slotName hex)) (now (s .entry)) at) ⌝ }
 {
-    if n == 0 {
-        return Scan::Got(at);
+    if hex {
+        return fixed_at(s, at, &NUMBERS);
     }
-    match fixed_at(s, at, &BANDS) {
-        Scan::Got(p) => counts(s, p, n, out, place),
-        Scan::Bad(p) => Scan::Bad(p),
-    }
+    fixed_at(s, at, &BANDS)
 }
 
-// The line of n half floats, where there is one, stored from a place on.
-fn numbers_at(s: &[u8], at: usize, n: usize, out: &mut [u16], place: usize) -> Scan
+// The line of n of them, where there is one, stored from a place on.
+fn slots_at(s: &[u8], at: usize, n: usize, hex: bool, out: &mut [u16], place: usize) -> Scan
     requires { ⌜ (at ≤ length (now s)) × (place + n < 4294967296) ⌝ }
-    ensures scanned { λ r. ⌜ r ≡ seen (readAt (line (bytes "numbers=") 0 half n) (now (s .entry)) at) ⌝ }
-    ensures stored { λ r. ⌜ ((vs : List ℕ) (q : ℕ) → readAt (line (bytes "numbers=") 0 half n) (now (s .entry)) at ≡ got vs q → now (out .exit) ≡ sets (now (out .entry)) place vs) ⌝ }
+    ensures scanned { λ r. ⌜ r ≡ seen (readAt (line (slotName hex) 0 (slot hex) n) (now (s .entry)) at) ⌝ }
+    ensures stored { λ r. ⌜ ((vs : List ℕ) (q : ℕ) → readAt (line (slotName hex) 0 (slot hex) n) (now (s .entry)) at ≡ got vs q → now (out .exit) ≡ sets (now (out .entry)) place vs) ⌝ }
 {
     if n == 0 {
         return Scan::Got(at);
     }
-    match fixed_at(s, at, &NUMBERS) {
-        Scan::Got(p) => halves(s, p, n, out, place),
+    match name_at(s, at, hex) {
+        Scan::Got(p) => slots(s, p, n, hex, out, place),
         Scan::Bad(p) => Scan::Bad(p),
     }
 }
@@ -91,6 +86,17 @@ pub(crate) fn sample_count(kind: usize, mode: usize) -> usize
     0
 }
 
+// Where a kind's samples start in an arena, or 0 where it has none.
+pub(crate) fn part_start(kind: usize, mode: usize) -> usize
+    ensures { λ r. ⌜ r ≡ pick (eqb mode 7) (startOf kind) 0 ⌝ }
+{
+    if mode != 7 {
+        return 0;
+    }
+    let shape = Kind { no: kind };
+    shape.arena_start()
+}
+
 // The samples of a kind, into its part of the arena.
 fn part_at(s: &[u8], at: usize, kind: usize, mode: usize, arena: &mut [i32]) -> Scan
     requires { ⌜ at ≤ length (now s) ⌝ }
@@ -117,10 +123,10 @@ fn parts_at(
     ensures stored { λ r. ⌜ ((p : List ℕ × (List ℕ × List ℤ)) (q : ℕ) → readAt (parts kind mode) (now (s .entry)) at ≡ got p q → PartsStored kind (now (row .entry)) (now (row .exit)) (now (arena .entry)) (now (arena .exit)) p) ⌝ }
 {
     let lists = params::LISTS[mode];
-    match bands_at(s, at, lists, row, 1) {
+    match slots_at(s, at, lists, false, row, 1) {
         Scan::Got(p) => {
             let n = number_count(mode, row[1], row[2]);
-            match numbers_at(s, p, n, row, 3) {
+            match slots_at(s, p, n, true, row, 3) {
                 Scan::Got(q) => part_at(s, q, kind, mode, arena),
                 Scan::Bad(q) => Scan::Bad(q),
             }

@@ -7,8 +7,8 @@ ghost use lib.Seq.{sets};
 ghost use lib.IntN.{ℤ, pos, negℤ};
 ghost use Rattle.record.specs.Format.{shared, seqs, byteRead, got, lit};
 ghost use Rattle.record.specs.Number.{next, number, signed};
-ghost use Rattle.record.specs.Answers.{readAt, num, sampleOf, seen};
-ghost use Rattle.record.specs.Half.{half, hexOr, isHex, mayFollow};
+ghost use Rattle.record.specs.Answers.{readAt, num, toldOf, sampleOf, seen, digitOk, slot};
+ghost use Rattle.record.specs.Half.{half, hexOr, isHex};
 ghost use Rattle.record.specs.Record.{endOf, items};
 
 // A number that was read and the position past it, or the position that refuses.
@@ -129,48 +129,42 @@ pub(crate) fn hex_at(s: &[u8], i: usize) -> u64
     16
 }
 
-// The same for a digit that may follow one of value v.
-pub(crate) fn second_at(s: &[u8], i: usize, v: u64) -> u64
-    ensures { λ r. ⌜ r ≡ hexOr (byteRead (mayFollow v) (drop i (now (s .entry)))) ⌝ }
+// The same for digit k of a half float, where those before it have the value v.
+pub(crate) fn digit_at(s: &[u8], i: usize, k: usize, v: u64) -> u64
+    ensures { λ r. ⌜ r ≡ hexOr (byteRead (digitOk k v) (drop i (now (s .entry)))) ⌝ }
 {
     let w = hex_at(s, i);
-    if v % 8 == 7 {
-        if 12 <= w {
-            return 16;
-        }
+    if w < 12 {
         return w;
     }
-    w
+    if k != 1 {
+        return w;
+    }
+    if v % 8 != 7 {
+        return w;
+    }
+    16
 }
 
 // Four hexadecimal digits of a finite half float, closed by the byte end.
 pub(crate) fn half_at(s: &[u8], at: usize, end: u8) -> Num
-    requires { ⌜ at ≤ length (now s) ⌝ }
+    requires { ⌜ (at ≤ length (now s)) × (0 < end) ⌝ }
     ensures { λ r. ⌜ r ≡ num (readAt (half end) (now (s .entry)) at) ⌝ }
 {
-    let a = hex_at(s, at);
-    if 16 <= a {
-        return Num::Bad(at);
+    let mut v: u64 = 0;
+    let mut i: usize = 0;
+    while i < 4 {
+        let w = digit_at(s, at + i, i, v);
+        if 16 <= w {
+            return Num::Bad(at + i);
+        }
+        v = v * 16 + w;
+        i += 1;
     }
-    let b = second_at(s, at + 1, a);
-    if 16 <= b {
-        return Num::Bad(at + 1);
-    }
-    let c = hex_at(s, at + 2);
-    if 16 <= c {
-        return Num::Bad(at + 2);
-    }
-    let d = hex_at(s, at + 3);
-    if 16 <= d {
-        return Num::Bad(at + 3);
-    }
-    if s.len() <= at + 4 {
+    if byte_at(s, at + 4) != end {
         return Num::Bad(at + 4);
     }
-    if s[at + 4] != end {
-        return Num::Bad(at + 4);
-    }
-    Num::Got(((a * 16 + b) * 16 + c) * 16 + d, at + 5)
+    Num::Got(v, at + 5)
 }
 
 // The byte behind an item that n more follow.
@@ -187,32 +181,6 @@ pub(crate) fn put_u16(out: &mut [u16], i: usize, v: u16)
     if i < out.len() {
         out[i] = v;
     }
-}
-
-// n half floats with commas between, stored from a place on.
-pub(crate) fn halves(s: &[u8], at: usize, n: usize, out: &mut [u16], place: usize) -> Scan
-    requires { ⌜ (at ≤ length (now s)) × (place + n < 4294967296) ⌝ }
-    ensures scanned { λ r. ⌜ r ≡ seen (readAt (seqs 0 (items half n)) (now (s .entry)) at) ⌝ }
-    ensures stored { λ r. ⌜ ((vs : List ℕ) (q : ℕ) → readAt (seqs 0 (items half n)) (now (s .entry)) at ≡ got vs q → now (out .exit) ≡ sets (now (out .entry)) place vs) ⌝ }
-{
-    let mut left = n;
-    let mut p = at;
-    let mut j = place;
-    while 0 < left {
-        left -= 1;
-        let end = end_of(left);
-        match half_at(s, p, end) {
-            Num::Bad(q) => {
-                return Scan::Bad(q);
-            }
-            Num::Got(v, q) => {
-                put_u16(out, j, v as u16);
-                p = q;
-            }
-        }
-        j += 1;
-    }
-    Scan::Got(p)
 }
 
 // The byte at i, or 0 past the end.
@@ -309,11 +277,32 @@ pub(crate) fn fixed_at(s: &[u8], at: usize, w: &[u8]) -> Scan
     Scan::Got(at + n)
 }
 
-// n band counts with commas between, stored from a place on.
-pub(crate) fn counts(s: &[u8], at: usize, n: usize, out: &mut [u16], place: usize) -> Scan
+// A scan as the answer of the number v.
+pub(crate) fn told(v: u64, x: Scan) -> Num
+    ensures { λ r. ⌜ r ≡ toldOf v x ⌝ }
+{
+    match x {
+        Scan::Got(q) => Num::Got(v, q),
+        Scan::Bad(q) => Num::Bad(q),
+    }
+}
+
+// A band count or, where hex says so, a half float, closed by the byte end.
+pub(crate) fn slot_at(s: &[u8], at: usize, hex: bool, end: u8) -> Num
+    requires { ⌜ (at ≤ length (now s)) × ((end < 48) × (0 < end)) ⌝ }
+    ensures { λ r. ⌜ r ≡ num (readAt (slot hex end) (now (s .entry)) at) ⌝ }
+{
+    if hex {
+        return half_at(s, at, end);
+    }
+    number_at(s, at, 16, end)
+}
+
+// n of them with commas between, stored from a place on.
+pub(crate) fn slots(s: &[u8], at: usize, n: usize, hex: bool, out: &mut [u16], place: usize) -> Scan
     requires { ⌜ (at ≤ length (now s)) × (place + n < 4294967296) ⌝ }
-    ensures scanned { λ r. ⌜ r ≡ seen (readAt (seqs 0 (items (number 16) n)) (now (s .entry)) at) ⌝ }
-    ensures stored { λ r. ⌜ ((vs : List ℕ) (q : ℕ) → readAt (seqs 0 (items (number 16) n)) (now (s .entry)) at ≡ got vs q → now (out .exit) ≡ sets (now (out .entry)) place vs) ⌝ }
+    ensures scanned { λ r. ⌜ r ≡ seen (readAt (seqs 0 (items (slot hex) n)) (now (s .entry)) at) ⌝ }
+    ensures stored { λ r. ⌜ ((vs : List ℕ) (q : ℕ) → readAt (seqs 0 (items (slot hex) n)) (now (s .entry)) at ≡ got vs q → now (out .exit) ≡ sets (now (out .entry)) place vs) ⌝ }
 {
     let mut left = n;
     let mut p = at;
@@ -321,7 +310,7 @@ pub(crate) fn counts(s: &[u8], at: usize, n: usize, out: &mut [u16], place: usiz
     while 0 < left {
         left -= 1;
         let end = end_of(left);
-        match number_at(s, p, 16, end) {
+        match slot_at(s, p, hex, end) {
             Num::Bad(q) => {
                 return Scan::Bad(q);
             }

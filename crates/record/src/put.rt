@@ -57,38 +57,33 @@ pub(crate) fn magnitude_of(v: i32) -> u64
     }
 }
 
+// A number and the byte behind it.
+fn put_count(out: &mut [u8], at: usize, n: u64, end: u8) -> usize
+    requires { ⌜ (at < 4611686018427387906) × (n < 4294967296) ⌝ }
+    ensures place { λ r. ⌜ r ≡ at + length (number 16 end .write n) ⌝ }
+    ensures bytes { λ r. ⌜ now (out .exit) ≡ sets (now (out .entry)) at (number 16 end .write n) ⌝ }
+{
+    let p = put_digits(out, at, n);
+    put_u8(out, p, end);
+    p + 1
+}
+
 // A sample and the byte behind it.
-pub(crate) fn put_sample(out: &mut [u8], at: usize, v: i32, end: u8) -> usize
+fn put_sample(out: &mut [u8], at: usize, v: i32, end: u8) -> usize
     requires { ⌜ at < 4611686018427387904 ⌝ }
     ensures place { λ r. ⌜ r ≡ at + length (signed end .write v) ⌝ }
     ensures bytes { λ r. ⌜ now (out .exit) ≡ sets (now (out .entry)) at (signed end .write v) ⌝ }
 {
     let m = magnitude_of(v);
     if m == 0 {
-        put_u8(out, at, 48);
-        put_u8(out, at + 1, end);
-        return at + 2;
+        let zero = [48, end];
+        return put_bytes(out, at, &zero);
     }
     if v < 0 {
         put_u8(out, at, 45);
-        let p = put_digits(out, at + 1, m);
-        put_u8(out, p, end);
-        return p + 1;
+        return put_count(out, at + 1, m, end);
     }
-    let p = put_digits(out, at, m);
-    put_u8(out, p, end);
-    p + 1
-}
-
-// A band count and the byte behind it.
-fn put_count(out: &mut [u8], at: usize, n: u16, end: u8) -> usize
-    requires { ⌜ at < 4611686018427387904 ⌝ }
-    ensures place { λ r. ⌜ r ≡ at + length (number 16 end .write n) ⌝ }
-    ensures bytes { λ r. ⌜ now (out .exit) ≡ sets (now (out .entry)) at (number 16 end .write n) ⌝ }
-{
-    let p = put_digits(out, at, n as u64);
-    put_u8(out, p, end);
-    p + 1
+    put_count(out, at, m, end)
 }
 
 // A hexadecimal digit.
@@ -127,7 +122,7 @@ pub(crate) fn put_counts(src: &[u16], out: &mut [u8], at: usize) -> usize
     let mut p = at;
     while i < src.len() {
         let end = end_of(src.len() - i - 1);
-        p = put_count(out, p, src[i], end);
+        p = put_count(out, p, src[i] as u64, end);
         i += 1;
     }
     p

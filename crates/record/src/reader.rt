@@ -12,11 +12,11 @@ ghost use lib.ListN.{length};
 ghost use lib.Dec.{eqb};
 ghost use lib.Seq.{sets};
 ghost use Rattle.params.specs.Header.{allDefault};
-ghost use Rattle.record.specs.Format.{got};
+ghost use Rattle.record.specs.Format.{got, whole};
 ghost use Rattle.record.specs.Rows.{Row, allKinds};
 ghost use Rattle.record.specs.Flat.{Flat, flatFormat};
 ghost use Rattle.record.specs.Description.{anyRaw};
-ghost use Rattle.record.specs.Replies.{readLent, readAnswer, rowsAfter, samplesAfter};
+ghost use Rattle.record.specs.Replies.{readLent, readIs, readAnswer, rowsAfter, samplesAfter};
 ghost use Rattle.record.specs.Answers.{readAt, seen, SetStored, FlatStored};
 
 // The answers to a reading: document 01's DONE, LENT, ROOM and TEXT.
@@ -64,7 +64,7 @@ fn walk(s: &[u8], rows: &mut [u16], arena: &mut [i32]) -> Scan
     ensures scanned { λ r. ⌜ r ≡ seen (readAt flatFormat (now (s .entry)) 0) ⌝ }
     ensures stored { λ r. ⌜ ((f : Flat) (q : ℕ) → readAt flatFormat (now (s .entry)) 0 ≡ got f q → FlatStored (now (rows .exit)) (now (arena .entry)) (now (arena .exit)) f) ⌝ }
 {
-    match header_at(s, 0) {
+    match header_at(s) {
         Num::Got(d, p) => {
             if d == 1 {
                 put_default(rows);
@@ -115,7 +115,27 @@ fn no_room(rows: &[u16], l: usize) -> bool
     false
 }
 
-// Reads a record: first all of it without storing, so that a refusal leaves everything as it was.
+// The answer to a reading of a text, with l samples lent: all of it is read, and nothing lent is stored in.
+fn answer_of(text: &[u8], l: usize) -> Taken
+    ensures { λ r. ⌜ r ≡ readIs l (whole flatFormat (now (text .entry))) ⌝ }
+{
+    let mut rows = [0u16; 2176];
+    let mut arena = [0i32; 1];
+    match walk(text, &mut rows, &mut arena) {
+        Scan::Got(q) => {
+            if q < text.len() {
+                return Taken::Text { length: q };
+            }
+            if no_room(&rows, l) {
+                return Taken::Room { length: 394752 };
+            }
+            Taken::Done
+        }
+        Scan::Bad(q) => Taken::Text { length: q },
+    }
+}
+
+// Reads a record: it is stored once it is known to be one, so that a refusal leaves everything as it was.
 pub fn read_record(text: &[u8], rows: &mut [u16], samples: &mut [i32]) -> Taken
     ensures answer { λ r. ⌜ r ≡ readAnswer (length (now (rows .entry))) (length (now (samples .entry))) (now (text .entry)) ⌝ }
     ensures rows { λ r. ⌜ now (rows .exit) ≡ rowsAfter (now (rows .entry)) (length (now (samples .entry))) (now (text .entry)) ⌝ }
@@ -125,20 +145,10 @@ pub fn read_record(text: &[u8], rows: &mut [u16], samples: &mut [i32]) -> Taken
     if is_lent(rows.len(), l) {
         return Taken::Lent;
     }
-    let mut seen = [0u16; 2176];
-    match walk(text, &mut seen, &mut samples[0..0]) {
-        Scan::Got(q) => {
-            if q < text.len() {
-                return Taken::Text { length: q };
-            }
-            if no_room(&seen, l) {
-                return Taken::Room { length: 394752 };
-            }
-        }
-        Scan::Bad(q) => {
-            return Taken::Text { length: q };
-        }
+    let answer = answer_of(text, l);
+    if let Taken::Done = answer {
+        walk(text, rows, samples);
+        return Taken::Done;
     }
-    walk(text, rows, samples);
-    Taken::Done
+    answer
 }

@@ -1,5 +1,5 @@
 -- `record::fixed::flag_at` meets its contract. Assumes nothing.
-use Rattle.record.proofs.Framed.{digit-low, flag-high, flag-got}
+use Rattle.record.proofs.Framed.{flag-one, flag-none}
 use borrow.Author.Needs.{needs}
 use Rattle.record.proofs.fixed.flag_at.Statement.{statement}
 use Rattle.record.proofs.fixed.flag_at.Tie as tie
@@ -10,20 +10,11 @@ use Rattle.record.proofs.piece.byte_at.Reads as byte-at-reads
 byte-at-requires : tie.Need-byte-at-requires
 byte-at-requires c κs = search needs
 
-cast-b : tie.Need-cast-b
-cast-b c = search needs
-
 returns : tie.Need-returns
-returns c = search (digit-low, needs)
+returns c = let a = c .before .before .before .args in flag-one (a .s .now) (a .at) _ (c .before .byte-at .ensures) (c .if1 .taken)
 
 returns-2 : tie.Need-returns-2
-returns-2 c = search (flag-high, needs)
-
-add-t7 : tie.Need-add-t7
-add-t7 c = search needs
-
-returns-3 : tie.Need-returns-3
-returns-3 c = search (flag-got, needs)
+returns-2 c = let a = c .before .before .before .args in flag-none (a .s .now) (a .at) _ (c .before .byte-at .ensures) (c .if1 .left)
 
 pub flag-at-spec : {M : Type 1} → statement M
-flag-at-spec = tie.close (tie.spec byte-at-requires cast-b returns returns-2 add-t7 returns-3)
+flag-at-spec = tie.close (tie.spec byte-at-requires returns returns-2)

@@ -1,67 +1,73 @@
 -- `record::fixed::mode_at` meets its contract. Assumes nothing.
-use Rattle.record.proofs.Framed.{lit-within, mode-within, framed-open, framed-bad, framed-shut, framed-got}
+use Rattle.record.proofs.Framed.{kind-framed, short-place, long-place}
 use borrow.Author.Needs.{needs}
 use Rattle.record.proofs.fixed.mode_at.Statement.{statement}
 use Rattle.record.proofs.fixed.mode_at.Tie as tie
 use Rattle.record.proofs.fixed.mode_at.Reads as reads
 use Rattle.record.proofs.fixed.mode_at.Lts as lts
-use Rattle.record.proofs.fixed.heading_at.Reads as heading-at-reads
+use Rattle.record.proofs.fixed.long_lines.Reads as long-lines-reads
 use Rattle.record.proofs.fixed.mode_digit.Reads as mode-digit-reads
-use Rattle.record.proofs.fixed.orders_at.Reads as orders-at-reads
+use Rattle.record.proofs.fixed.short_lines.Reads as short-lines-reads
+use Rattle.record.proofs.piece.fixed_at.Reads as fixed-at-reads
+use Rattle.record.proofs.piece.told.Reads as told-reads
 
-heading-at-requires : tie.Need-heading-at-requires
-heading-at-requires c κs = search needs
-
-enum-known-p : tie.Need-enum-known-p
-enum-known-p c = search needs
+add-mode-digit : tie.Need-add-mode-digit
+add-mode-digit c = search needs
 
 mode-digit-requires : tie.Need-mode-digit-requires
-mode-digit-requires c κs = search (lit-within, needs)
+mode-digit-requires c κs = search needs
 
-enum-known-m : tie.Need-enum-known-m
-enum-known-m c = search needs
+short-lines-requires : tie.Need-short-lines-requires
+short-lines-requires c κs = search needs
 
-orders-at-requires : tie.Need-orders-at-requires
-orders-at-requires c κs = mode-within (c .before .before .before .before .before .before .before .before .before .args .kind) _ (c .before .before .before .before .before .p .given .0 .0) _ (c .before .m .given .0 .0) _ (search (lit-within, needs)) (c .before .before .before .mode-digit .ensures) (search)
+slice-aggregate-fixed-at : tie.Need-slice-aggregate-fixed-at
+slice-aggregate-fixed-at c = search needs
 
-enum-known-e : tie.Need-enum-known-e
-enum-known-e c = search needs
+fixed-at-requires : tie.Need-fixed-at-requires
+fixed-at-requires c κs = search needs
 
-enum-known-e-2 : tie.Need-enum-known-e-2
-enum-known-e-2 c = search needs
-
-enum-known-q : tie.Need-enum-known-q
-enum-known-q c = search needs
-
-enum-known-p-2 : tie.Need-enum-known-p-2
-enum-known-p-2 c = search needs
+told-requires : tie.Need-told-requires
+told-requires c κs = search needs
 
 returns : tie.Need-returns
-returns c = search (framed-got, needs)
+returns c = search (kind-framed, short-place, needs)
+
+add-mode-digit-2 : tie.Need-add-mode-digit-2
+add-mode-digit-2 c = search needs
+
+mode-digit-requires-2 : tie.Need-mode-digit-requires-2
+mode-digit-requires-2 c κs = search needs
+
+long-lines-requires : tie.Need-long-lines-requires
+long-lines-requires c κs = search needs
+
+slice-aggregate-fixed-at-2 : tie.Need-slice-aggregate-fixed-at-2
+slice-aggregate-fixed-at-2 c = search needs
+
+fixed-at-requires-2 : tie.Need-fixed-at-requires-2
+fixed-at-requires-2 c κs = search needs
+
+told-requires-2 : tie.Need-told-requires-2
+told-requires-2 c κs = search needs
 
 returns-2 : tie.Need-returns-2
-returns-2 c = search (framed-shut, needs)
-
-returns-3 : tie.Need-returns-3
-returns-3 c = search (framed-bad, needs)
-
-returns-4 : tie.Need-returns-4
-returns-4 c = search (framed-open, needs)
+returns-2 c = search (kind-framed, long-place, needs)
 
 pub mode-at-spec : {M : Type 1} → statement M
 mode-at-spec =
     tie.close
     (tie.spec
-    heading-at-requires
-    enum-known-p
+    add-mode-digit
     mode-digit-requires
-    enum-known-m
-    orders-at-requires
-    enum-known-e
-    enum-known-e-2
-    enum-known-q
-    enum-known-p-2
+    short-lines-requires
+    slice-aggregate-fixed-at
+    fixed-at-requires
+    told-requires
     returns
-    returns-2
-    returns-3
-    returns-4)
+    add-mode-digit-2
+    mode-digit-requires-2
+    long-lines-requires
+    slice-aggregate-fixed-at-2
+    fixed-at-requires-2
+    told-requires-2
+    returns-2)

@@ -39,8 +39,11 @@ mul-put-count c = search needs
 shared-slice-read-put-count : tie.Need-shared-slice-read-put-count Inv-loop μ-loop
 shared-slice-read-put-count c = search needs
 
+cast-put-count : tie.Need-cast-put-count Inv-loop μ-loop
+cast-put-count c = record { fits = omega (arith, c .before .before .before .before .before .before .shared-slice-known .given (c .before .before .before .before .loop .i) .fits) }
+
 put-count-requires : tie.Need-put-count-requires Inv-loop μ-loop
-put-count-requires c κs = omega (arith, wrote-place 0 (number 16) _ _ _ _ _ _ (c .before .before .before .before .loop .inv .2), c .before .before .before .loop-test .taken)
+put-count-requires c κs = (omega (arith, wrote-place 0 (number 16) _ _ _ _ _ _ (c .before .before .before .before .loop .inv .2), c .before .before .before .loop-test .taken), omega (arith, c .before .before .before .before .before .before .shared-slice-known .given (c .before .before .before .before .loop .i) .fits))
 
 add-i : tie.Need-add-i Inv-loop μ-loop
 add-i c = search needs
@@ -69,6 +72,7 @@ put-counts-spec =
     end-of-requires
     mul-put-count
     shared-slice-read-put-count
+    cast-put-count
     put-count-requires
     add-i
     loop-less

@@ -1,32 +1,16 @@
 -- `record::writer::put_mode` meets its contract. Assumes nothing.
-use Rattle.record.proofs.LineStores.{mode-stored}
+use Rattle.record.proofs.LineStores.{lines-short, text-stored}
 use borrow.Author.Needs.{needs}
 use Rattle.record.proofs.writer.put_mode.Statement.{statement}
 use Rattle.record.proofs.writer.put_mode.Tie as tie
 use Rattle.record.proofs.writer.put_mode.Reads as reads
 use Rattle.record.proofs.writer.put_mode.Lts as lts
-use Rattle.record.proofs.fixed.orders_of.Reads as orders-of-reads
+use Rattle.record.proofs.fixed.long_lines.Reads as long-lines-reads
+use Rattle.record.proofs.fixed.short_lines.Reads as short-lines-reads
 use Rattle.record.proofs.put.put_bytes.Reads as put-bytes-reads
-use Rattle.record.proofs.put.put_u8.Reads as put-u8-reads
-use Rattle.record.proofs.writer.put_heading.Reads as put-heading-reads
 
-put-heading-requires : tie.Need-put-heading-requires
-put-heading-requires c κs = search needs
-
-cast-put-u8 : tie.Need-cast-put-u8
-cast-put-u8 c = search needs
-
-add-put-u8 : tie.Need-add-put-u8
-add-put-u8 c = search needs
-
-put-u8-requires : tie.Need-put-u8-requires
-put-u8-requires c κs = search needs
-
-orders-of-requires : tie.Need-orders-of-requires
-orders-of-requires c κs = search needs
-
-add-put-bytes : tie.Need-add-put-bytes
-add-put-bytes c = search needs
+short-lines-requires : tie.Need-short-lines-requires
+short-lines-requires c κs = search needs
 
 slice-aggregate-put-bytes : tie.Need-slice-aggregate-put-bytes
 slice-aggregate-put-bytes c = search needs
@@ -38,19 +22,34 @@ same-length : tie.Need-same-length
 same-length c = search needs
 
 returns : tie.Need-returns
-returns c = let a = c .before .before .before .before .before .before .before .before .before .before .before .before .before .before .before .args in mode-stored (a .out .now) _ _ _ (a .at) _ _ (a .kind) (a .mode) _ (c .before .before .before .before .before .before .before .before .before .before .before .before .put-heading .ensures) (c .before .before .before .before .before .before .before .before .put-u8 .ensures) (c .before .before .before .before .before .orders-of .ensures) (c .before .before .put-bytes .ensures .0) (c .before .before .put-bytes .ensures .1)
+returns c = let a = c .before .before .before .before .before .before .before .before .args in text-stored _ _ _ _ _ _ _ (lines-short (a .kind) (a .mode)) (c .before .before .before .before .before .short-lines .ensures) (c .before .before .put-bytes .ensures .0) (c .before .before .put-bytes .ensures .1)
+
+long-lines-requires : tie.Need-long-lines-requires
+long-lines-requires c κs = search needs
+
+slice-aggregate-put-bytes-2 : tie.Need-slice-aggregate-put-bytes-2
+slice-aggregate-put-bytes-2 c = search needs
+
+put-bytes-requires-2 : tie.Need-put-bytes-requires-2
+put-bytes-requires-2 c κs = search needs
+
+same-length-2 : tie.Need-same-length-2
+same-length-2 c = search needs
+
+returns-2 : tie.Need-returns-2
+returns-2 c = let a = c .before .before .before .before .before .before .before .before .args in text-stored _ _ _ _ _ _ _ (lines-short (a .kind) (a .mode)) (c .before .before .before .before .before .long-lines .ensures) (c .before .before .put-bytes2 .ensures .0) (c .before .before .put-bytes2 .ensures .1)
 
 pub put-mode-spec : {M : Type 1} → statement M
 put-mode-spec =
     tie.close
     (tie.spec
-    put-heading-requires
-    cast-put-u8
-    add-put-u8
-    put-u8-requires
-    orders-of-requires
-    add-put-bytes
+    short-lines-requires
     slice-aggregate-put-bytes
     put-bytes-requires
     same-length
-    returns)
+    returns
+    long-lines-requires
+    slice-aggregate-put-bytes-2
+    put-bytes-requires-2
+    same-length-2
+    returns-2)

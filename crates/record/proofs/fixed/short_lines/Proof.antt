@@ -1,0 +1,51 @@
+-- `record::fixed::short_lines` meets its contract. Assumes nothing.
+use Rattle.record.proofs.Framed.{short-one, short-two}
+use mathlib.Core.Logic.{⊎-elim}
+use borrow.Author.Needs.{needs}
+use Rattle.record.proofs.fixed.short_lines.Statement.{statement}
+use Rattle.record.proofs.fixed.short_lines.Tie as tie
+use Rattle.record.proofs.fixed.short_lines.Reads as reads
+use Rattle.record.proofs.fixed.short_lines.Lts as lts
+use Rattle.transform.proofs.Kind.height.Reads as height-reads
+use Rattle.transform.proofs.Kind.width.Reads as width-reads
+
+width-requires : tie.Need-width-requires
+width-requires c κs = search needs
+
+height-requires : tie.Need-height-requires
+height-requires c κs = search needs
+
+cast-line : tie.Need-cast-line
+cast-line c = search needs
+
+add-line : tie.Need-add-line
+add-line c = search needs
+
+array-write-line : tie.Need-array-write-line
+array-write-line c = search needs
+
+cast-line-2 : tie.Need-cast-line-2
+cast-line-2 c = search needs
+
+add-line-2 : tie.Need-add-line-2
+add-line-2 c = search needs
+
+array-write-line-2 : tie.Need-array-write-line-2
+array-write-line-2 c = search needs
+
+returns : tie.Need-returns
+returns c = let a = c .before .before .before .args in ⊎-elim (λ w. short-two (a .kind) (a .mode) _ (search needs) _ _ (c .before .before .width .ensures) (c .before .height .ensures) (w .0 .taken) (w .1)) (λ w. short-one (a .kind) (a .mode) _ (search needs) _ _ (c .before .before .width .ensures) (c .before .height .ensures) (w .0 .left) (w .1)) (c .if1 .came)
+
+pub short-lines-spec : {M : Type 1} → statement M
+short-lines-spec =
+    tie.close
+    (tie.spec
+    width-requires
+    height-requires
+    cast-line
+    add-line
+    array-write-line
+    cast-line-2
+    add-line-2
+    array-write-line-2
+    returns)
