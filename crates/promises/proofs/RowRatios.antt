@@ -2,7 +2,7 @@
 use mathlib.Core.Path.{_≡_, refl, sym, ap, _∙_, subst}
 use mathlib.Core.Logic.{_⊎_, inl, inr, ⊎-elim}
 use mathlib.Core.Bool.{Bool, true, false, cond, true≢false}
-use mathlib.Core.List.{List, [], _∷_}
+use mathlib.Core.List.{List}
 use Prim.Native.Nat.{ℕ, zero, suc, _+_, _-_, _*_, _^_, _≤_, _<_}
 use native.Mathlib.Nat.{lt-irrefl, mul-pos, zero-mul, zero-lt-suc}
 use native.Mathlib.Omega.{arith}
@@ -205,7 +205,6 @@ module _ (k : ℕ) (row : List ℕ) (ok : rowAllowed k row ≡ true) where
     own-accurate z f g =
         accurate (ratioAt (atOf (ownList (numbersOf row k) c)) i) f (div-fits binary32 (bandAt (atOf (ownList (numbersOf row k) c)) (i + 1)) (bandAt (atOf (ownList (numbersOf row k) c)) i)) (own-normal z) g
 
-    -- where p5 is above zero: the same
     above-not-zero : (x : Float) → T (positive x) → isZero x ≡ false
     above-not-zero nan p = refl
     above-not-zero (inf s) p = refl
@@ -213,6 +212,7 @@ module _ (k : ℕ) (row : List ℕ) (ok : rowAllowed k row ≡ true) where
     above-not-zero (fin false zero e) p = absurd p
     above-not-zero (fin false (suc m) e) p = refl
 
+    -- so it is where p5 is above zero
     pub own-above : T (positive (numberOf (numbersOf row k) c 5)) → T (normal (ratioAt (atOf (ownList (numbersOf row k) c)) i))
     own-above p = own-normal (above-not-zero (numberOf (numbersOf row k) c 5) p)
 
