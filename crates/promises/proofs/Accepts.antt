@@ -1,28 +1,25 @@
 -- When a kind, and when a set, is accepted: no band and no weight of it is refused. Assumes nothing.
-use mathlib.Core.Path.{_≡_, refl, sym, ap, _∙_, subst}
-use mathlib.Core.Logic.{_⊎_, inl, inr}
-use mathlib.Core.Bool.{Bool, true, false, cond, not, _&&_, _||_}
+use mathlib.Core.Path.{_≡_, refl, sym, ap, _∙_}
+use mathlib.Core.Bool.{Bool, true, false, cond, _&&_}
 use mathlib.Core.List.{List, [], _∷_, map}
-use Prim.Native.Nat.{ℕ, zero, suc, _+_, _*_, _/_, _%_, _≤_, _<_}
+use Prim.Native.Nat.{ℕ, zero, suc, _/_, _%_, _≤_, _<_}
 use native.Mathlib.Nat.{le-of-eq, le-of-suc-le-suc, not-suc-le-zero, zero-lt-suc, lt-of-lt-of-le, le-suc, lt-suc-self}
-use native.Mathlib.Omega.{arith}
 use borrow.Author.Tests.{le-ltb, eq-eqb}
-use lib.Dec.{ltb, eqb}
 use lib.IntN.{ℤ, pos}
 use lib.ListN.{length, getD, length-map, List·getD-map}
 use lib.Ieee.{Float, nan}
 use Rattle.transform.specs.First.{before}
 use Rattle.transform.specs.Kinds.{areaOf, placesOf}
 use Rattle.bitstream.specs.Half.{half}
-use Rattle.params.specs.Allowed.{rowAt, modeAt, rowAllowed, flagFault, rowFault}
-use Rattle.bands.proofs.TableLaws.{length-tab, getD-tab}
+use Rattle.params.specs.Allowed.{rowAt, rowAllowed, flagFault, rowFault}
+use Rattle.bands.proofs.TableLaws.{getD-tab}
 use Rattle.matrix.specs.declared.Expanded.{Expanded}
 use Rattle.matrix.specs.declared.Expanded.the-variants.{Done, Weight}
 use Rattle.matrix.specs.Mirror.{passed}
 use Rattle.matrix.specs.Raw.{weightOf, refused}
 use Rattle.matrix.specs.Numbers.{numbersOf}
 use Rattle.matrix.specs.Weight.{weightAt, weightsOf}
-use Rattle.matrix.specs.Expanded.{orElse, bandAnswer, weightAnswer, kindAnswer, expandAnswer, samplesRight}
+use Rattle.matrix.specs.Expanded.{orElse, bandAnswer, weightAnswer, kindAnswer, expandAnswer}
 use Rattle.matrix.proofs.Lending.{all-samples, by-samples}
 use Rattle.matrix.proofs.Places.{weights-length}
 use Rattle.matrix.proofs.RowFacts.{facts}
@@ -41,7 +38,7 @@ weights-done : (k : ℕ) (ws : List Float) → ((i : ℕ) → i < length ws → 
 unfolding weightAnswer
 weights-done k ws f = ap (λ (b : Bool). cond b (Weight k (passed ws / areaOf k) (passed ws % areaOf k)) Done) (le-ltb (passed ws) (length ws) (le-of-eq (sym (passed-all ws f))))
 
--- a kind whose bands and weights are not refused is accepted
+-- a kind whose bands and weights are not refused is accepted by BAND and WEIGHT; LENT and ROW are not spoken of
 pub kind-accepts : (k : ℕ) (row : List ℕ) (zs : List ℤ) → bandAnswer (numbersOf row k) k 3 ≡ Done → ((p : ℕ) → p < placesOf k → refused (weightAt row zs k (p / areaOf k) (p % areaOf k)) ≡ false)
     → kindAnswer row zs k ≡ Done
 unfolding kindAnswer weightsOf
@@ -68,7 +65,8 @@ raw-accepts k row zs ok m l f =
         other (x ∷ l) zero d e h = refl
         other (x ∷ l) (suc i) d e h = other l i d e (le-of-suc-le-suc h)
 
--- ---- one kind by itself, lent its row, all its samples and two outputs of its places
+-- ---- one kind by itself
+-- lent its row of 128, all its samples and two outputs of its places, and with ROW passed, the answer is that of BAND and WEIGHT
 pub alone : (k : ℕ) (row : List ℕ) (zs : List ℤ) → k < 17 → length row ≡ 128 → length zs ≡ placesOf k → rowAllowed k row ≡ true → expandAnswer k row zs (placesOf k) (placesOf k) ≡ kindAnswer row zs k
 alone k row zs h l m ok =
     sym (says-kind k row zs (placesOf k) (placesOf k) (sym (by-samples k row (length zs) (placesOf k) (placesOf k) (placesOf k) refl true (le-of-suc-le-suc h) l refl refl (all-samples (length zs) (placesOf k) (getD row 0 0) m))) ok)
@@ -82,6 +80,7 @@ before-every ok (suc n) f =
     ap (λ (b : Bool). cond (b && ok n) (suc n) (before ok n)) (eq-eqb (before ok n) n (before-every ok n (λ k h. f k (lt-of-lt-of-le h (le-suc n)))))
     ∙ ap (λ (b : Bool). cond b (suc n) (before ok n)) (f n (lt-suc-self n))
 
+-- kinds that are accepted each by itself are accepted one after the other
 pub kinds-done : (rows : List ℕ) (zs : List ℤ) (n : ℕ) → ((k : ℕ) → k < n → kindAnswer (rowAt rows k) (part k zs) k ≡ Done) → kindsAnswer rows zs n ≡ Done
 unfolding kindsAnswer
 kinds-done rows zs zero f = refl

@@ -2,16 +2,15 @@
 use mathlib.Core.Path.{_≡_, refl, sym, ap, _∙_, subst}
 use mathlib.Core.Bool.{Bool, true, false, cond, not, _&&_, _||_, true≢false}
 use mathlib.Core.List.{List, [], _∷_, _++_}
-use Prim.Native.Nat.{ℕ, zero, suc, _+_, _-_, _*_, _^_, _≤_, _<_}
-use native.Mathlib.Nat.{le-refl, le-trans, le-of-eq, le-suc, lt-of-lt-of-le, le-of-suc-le-suc, not-suc-le-zero, mul-comm, mul-assoc, mul-right-comm, mul-le-mul, mul-le-mul-right, le-of-mul-le-mul-right}
+use Prim.Native.Nat.{ℕ, zero, suc, _+_, _*_, _^_, _≤_, _<_}
+use native.Mathlib.Nat.{le-refl, le-trans, le-of-eq, le-suc, lt-of-lt-of-le, le-of-suc-le-suc, mul-comm, mul-assoc, mul-right-comm, mul-le-mul, mul-le-mul-right, le-of-mul-le-mul-right}
 use native.Mathlib.Omega.{arith}
-use borrow.Author.Tests.{eq-eqb, ne-eqb, lt-leb, le-leb, leb-true}
-use lib.Dec.{T, leb, ltb, eqb, leb→le, lit<, lit≤}
-use lib.IntN.{ℤ, pos}
+use borrow.Author.Tests.{eq-eqb, le-leb}
+use lib.Dec.{T, leb, ltb, eqb, leb→le, lit<}
+use lib.IntN.{ℤ}
 use lib.ListN.{length, getD, take, drop, replicate, length-append}
 use lib.Seq.{take-at, drop-at}
-use lib.Pow.{pow-pos}
-use lib.Ieee.{Float, nan, binary32, fits, round, neg, mul, add, sub, div, lt}
+use lib.Ieee.{Float, nan, binary32, fits, mul, add, sub, div, lt}
 use lib.Ieee.Exact.{HasValue}
 use lib.Ieee.Fits.{and-l, and-r}
 use lib.Ieee.Positive.{num, den, den-pos, positive, positive-finite, value→cross}
@@ -20,7 +19,7 @@ use Rattle.bands.specs.Bands.{atOf, bandAt, multOf}
 use Rattle.bands.proofs.TableLaws.{getD-tab}
 use Rattle.bands.proofs.WholeUnits.{whole-number, plain}
 use Rattle.bands.proofs.Ranged.{Banded}
-use Rattle.matrix.specs.Defaults.{defaults, defaultMode, defaultFirst, defaultSecond}
+use Rattle.matrix.specs.Defaults.{defaultMode}
 use Rattle.matrix.specs.Numbers.{each, readNumbers, defaultNumbers, defaultValue, numbersOf, numberOf, count, begins, bandNumber}
 use Rattle.transform.specs.First.{before}
 use Rattle.transform.specs.Kinds.{placesOf}
@@ -54,9 +53,6 @@ first-high u d g L K D e h = le-of-mul-le-mul-right {k = d} (le-trans (le-of-eq 
 
 spans-banded : (K H lo : ℕ) (x : Float) → K * lo ≡ 2 ^ 149 → T (spans K H x) → Banded lo (H * 2 ^ 149) x
 spans-banded K H lo x e t =
-    let a = fits binary32 x && positive x in
-    let b = leb (den x) (num x * K) in
-    let c = leb (num x) (H * den x) in
     let t1 : T (fits binary32 x && positive x) = and-l (fits binary32 x && positive x) (leb (den x) (num x * K) && leb (num x) (H * den x)) t in
     let t2 : T (leb (den x) (num x * K) && leb (num x) (H * den x)) = and-r (fits binary32 x && positive x) (leb (den x) (num x * K) && leb (num x) (H * den x)) t in
     let p : T (positive x) = and-r (fits binary32 x) (positive x) t1 in
@@ -197,6 +193,7 @@ module _ (k : ℕ) (named : k < 17) where
       (at (λ c. below (λ i. fairTest (bandAt (atOf (ownValues k c)) i)) 4) 3
       (or-right (eqb (defaultMode k) 5) (ownTest k) (at (λ k. not (eqb (defaultMode k) 5) || ownTest k) 17 own-tested k named) (eq-eqb (defaultMode k) 5 e)) c h) i g))
 
+  -- every default: bands and numbers from 2 ^ -24 to 2 ^ 40
   pub default-tame : Tame (defaultNumbers k)
   default-tame = record { bands = bands-fair; numbers = numbers-fair; divisors = divisors-fair; own = own-fair }
 
@@ -276,6 +273,7 @@ module _ (first : List ℕ) (long : length first ≡ 128) (mode : getD first 0 0
   rows-lent : setLent (headed first) 0 394752 394752 ≡ true
   rows-lent = sym (set-by-samples (headed first) 0 394752 394752 true rows-length refl refl (no-samples (headed first) 0 false (λ z. omega arith) (le-refl 0) (sym not-raw-rows)))
 
+  -- a set whose first row is of mode 0 and passes ROW, with 16 rows of zeros behind it, answers DONE
   pub headed-done : replyOf (expandSet (headed first) [] 394752 394752) ≡ 0 ∷ []
   headed-done = ap replyOf (default-set (headed first) [] 394752 394752 rows-lent no-fault rows-mode)
 

@@ -1,27 +1,26 @@
 -- Of all 65,536 half floats only 1004 is a denominator of JPEG values: 1/x that rounds to 2040 lies from 2039.5 to 2040.5, and no other half float has such an x. Assumes nothing.
 use mathlib.Core.Path.{_≡_, refl, sym, ap, _∙_, subst}
 use mathlib.Core.Logic.{_↔_, ⊎-elim}
-use mathlib.Core.Bool.{Bool, true, false, cond, not, _&&_, true≢false}
+use mathlib.Core.Bool.{Bool, true, false, cond, not, true≢false}
 use mathlib.Core.List.{List, [], _∷_}
 use Prim.Native.Nat.{ℕ, zero, suc, _+_, _-_, _*_, _/_, _%_, _^_, _≤_, _<_, compare}
-use native.Mathlib.Nat.{le-trans, le-of-eq, le-of-lt, lt-of-lt-of-le, lt-of-le-of-lt, mul-comm, mul-assoc, mul-left-comm, one-mul, mul-one, mul-pos, mul-le-mul, mul-le-mul-left, mul-le-mul-right, le-of-mul-le-mul-right, eq-zero-or-pos, zero-lt-suc, zero-mul, lt-irrefl, div-mul-le-self, lt-div-mul-add, mul-right-comm, le-of-suc-le-suc, not-suc-le-zero}
+use native.Mathlib.Nat.{le-trans, le-of-eq, le-of-lt, mul-comm, mul-assoc, mul-left-comm, mul-one, mul-pos, mul-le-mul, mul-le-mul-left, mul-le-mul-right, le-of-mul-le-mul-right, eq-zero-or-pos, zero-lt-suc, zero-mul, lt-irrefl, div-mul-le-self, lt-div-mul-add}
 use native.Mathlib.Omega.{arith}
-use borrow.Author.Tests.{eqb-true, ne-eqb, leb-false}
-use lib.Dec.{T, leb, ltb, eqb, lit<, lit≤}
-use lib.IntN.{ℤ, pos}
+use borrow.Author.Tests.{eqb-true, leb-false}
+use lib.Dec.{leb, ltb, eqb, lit≤}
 use lib.ListN.{getD}
 use lib.Pow.{pow-pos, pow-mono}
-use lib.Ieee.{Float, nan, inf, fin, binary32, prec, emax, low, up, down, size, nearest, odd, units, round, div}
+use lib.Ieee.{Float, nan, inf, fin, binary32, up, down, size, nearest, odd, units, round, div}
 use lib.Ieee.Exact.{HasValue}
 use lib.Ieee.Positive.{num, den, den-pos}
-use lib.Ieee.Fits.{up-pos, down-pos}
+use lib.Ieee.Fits.{up-pos}
 use Rattle.bitstream.specs.Half.{half, sizeIs}
 use Rattle.bitstream.proofs.HalfLaws.{half-exact}
 use Rattle.bands.specs.Bands.{one}
 use Rattle.bands.proofs.Units.{Units, div-units}
 use Rattle.bands.proofs.Position.{rescale}
 use Rattle.bands.proofs.Rounding.{largest, Near32, near32}
-use Rattle.matrix.proofs.Chain.{left, right}
+use Rattle.matrix.proofs.Chain.{right}
 use Rattle.dequant.specs.declared.jpeg.Jpeg.{Jpeg}
 use Rattle.dequant.specs.declared.jpeg.Jpeg.the-variants.{Done, Lent, Row, None}
 use Rattle.dequant.specs.Jpeg.{jpegNumbers, roundsTo, jpegDenominator, jpegAnswer}
@@ -157,9 +156,6 @@ pub only-1004 : (h : ℕ) → h < 65536 → jpegDenominator h ≡ true → h ≡
 unfolding jpegDenominator
 only-1004 h w e = go (leb 32768 h) refl (half-exact h)
   where
-    a : ℕ
-    a = sizeIs (h / 1024 % 32) (h % 1024)
-
     same : h < 32768 → h / 1024 % 32 ≡ 4 → h % 1024 ≡ 4 → h ≡ 4100
     same l p q = omega arith
 

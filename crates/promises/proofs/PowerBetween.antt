@@ -1,20 +1,18 @@
 -- The power P lies between 1 and its base, and an interpolated weight between its two bands, up to the accuracy of P. Assumes nothing.
-use mathlib.Core.Path.{_≡_, refl, sym, ap, _∙_, subst}
-use mathlib.Core.Logic.{_⊎_, inl, inr, ⊎-elim}
-use mathlib.Core.Bool.{Bool, true, false}
-use Prim.Native.Nat.{ℕ, zero, suc, _+_, _-_, _*_, _^_, _≤_, _<_}
-use native.Mathlib.Nat.{le-refl, le-trans, le-of-eq, le-of-lt, lt-of-lt-of-le, mul-comm, mul-assoc, mul-left-comm, mul-one, one-mul, mul-le-mul-left, mul-le-mul-right, mul-le-mul, le-of-mul-le-mul-right, mul-pos}
-use native.Mathlib.Omega.{arith}
+use mathlib.Core.Path.{_≡_, sym, ap, _∙_, subst}
+use mathlib.Core.Logic.{⊎-elim}
+use mathlib.Core.Bool.{false}
+use Prim.Native.Nat.{ℕ, _+_, _-_, _*_, _^_, _≤_, _<_}
+use native.Mathlib.Nat.{le-refl, le-trans, le-of-eq, le-of-lt, lt-of-lt-of-le, mul-comm, mul-assoc, mul-left-comm, mul-le-mul-left, mul-le-mul-right, mul-le-mul, le-of-mul-le-mul-right, mul-pos}
 use lib.Dec.{T, lit<, lit≤}
 use lib.Pow.{pow-pos}
 use lib.Ieee.{Float, binary32, fits, round, mul, div}
-use lib.Ieee.Fits.{round-fits, mul-fits, div-fits}
+use lib.Ieee.Fits.{mul-fits, div-fits}
 use lib.Ieee.Exact.{HasValue}
 use lib.Ieee.Positive.{num, den, den-pos, positive, positive-finite, own-value, value→cross, positive-of-value, mul-at}
 use Rattle.transform.proofs.Laws.{side}
-use Rattle.bands.specs.Close.{Close}
 use Rattle.bands.specs.Power.{normal, P}
-use Rattle.bands.proofs.Units.{Units, mul-units, div-units}
+use Rattle.bands.proofs.Units.{Units, div-units}
 use Rattle.bands.proofs.WholeUnits.{whole-number, plain}
 use Rattle.bands.proofs.Rounding.{largest, Near32, near32}
 use Rattle.bands.proofs.Powers.{root-small}
@@ -33,6 +31,7 @@ under-all c b n p d L N z l h g x =
     (le-trans (mul-le-mul-left ((d * 999999) ^ N) (native.Mathlib.Nat.pow-le-pow-left g n))
     (le-trans (le-of-eq (mul-comm ((d * 999999) ^ N) (c ^ n))) (le-trans x (le-of-eq (mul-comm ((p * 1000000) ^ N) (b ^ n))))))
 
+-- with q = num q / den q and r = num r / den r: r x 1,000,000 <= W / den q x 1,000,001 for a W that is no less than both, so for the larger of 1 and q; and likewise below
 pub record Between (q r : Float) : Type 0 where
   pub over : (W : ℕ) → den q ≤ W → num q ≤ W → num r * 1000000 * den q ≤ W * (den r * 1000001)
   pub under : (L : ℕ) → L ≤ den q → L ≤ num q → den r * 999999 * L ≤ den q * (num r * 1000000)
@@ -130,9 +129,6 @@ module _ (lo hi : ℕ) (room : Room lo hi) (a b : Float) (x : Banded lo hi a) (y
   apart-too : (i j : ℕ) → i ≤ hi → lo ≤ j → i ≤ largest * j
   apart-too i j h k = le-trans (apart i j h k) (le-trans (mul-le-mul-left j (lit≤ tt)) (le-of-eq (mul-comm j largest)))
 
-  abbrev q : Float
-  q = div binary32 b a
-
   q-is : div binary32 b a ≡ round binary32 false B A
   q-is = div-units binary32 b a B A (above A (x .least)) (y .value) (x .value)
 
@@ -147,9 +143,6 @@ module _ (lo hi : ℕ) (room : Room lo hi) (a b : Float) (x : Banded lo hi a) (y
   a-above = positive-of-value a A (2 ^ 149) (x .value) (above A (x .least))
 
   module _ (k : ℕ) (K : k < 2 ^ 32) where
-    abbrev r : Float
-    r = P (div binary32 b a) k
-
     r-above : T (positive (P (div binary32 b a) k))
     r-above = positive-power (div binary32 b a) k (div-fits binary32 b a) ratio-is-normal K
 

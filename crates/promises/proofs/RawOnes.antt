@@ -1,24 +1,23 @@
 -- Not everything is refused: raw kinds of denominator 3c00, which is 1, with all samples 1 are accepted, each kind by itself and all 17 as a set. Assumes nothing.
-use mathlib.Core.Path.{_≡_, refl, sym, ap, _∙_, subst}
-use mathlib.Core.Bool.{Bool, true, false}
+use mathlib.Core.Path.{_≡_, refl, sym, ap, _∙_}
+use mathlib.Core.Bool.{true, false}
 use mathlib.Core.List.{List, [], _∷_, _++_}
-use Prim.Native.Nat.{ℕ, zero, suc, _+_, _-_, _*_, _≤_, _<_}
-use native.Mathlib.Nat.{zero-mul, le-of-eq, le-of-suc-le-suc, not-suc-le-zero, lt-of-lt-of-le}
+use Prim.Native.Nat.{ℕ, zero, suc, _+_, _*_, _≤_, _<_}
+use native.Mathlib.Nat.{le-of-eq, le-of-suc-le-suc, not-suc-le-zero, lt-of-lt-of-le}
 use native.Mathlib.Omega.{arith}
-use lib.Dec.{lit<}
 use lib.IntN.{ℤ, pos}
-use lib.ListN.{length, getD, take, drop, replicate, length-append, length-replicate, getD-replicate, length-drop}
+use lib.ListN.{length, getD, take, drop, replicate, length-append, length-replicate, getD-replicate}
 use lib.Seq.{take-at, drop-at, getD-take, getD-drop}
 use lib.Ieee.{round, mul, ofInt, le, ne}
 use Rattle.transform.specs.Kinds.{placesOf, startOf}
 use Rattle.transform.proofs.Laws.{end-le}
 use Rattle.bitstream.specs.Half.{half}
-use Rattle.params.specs.Allowed.{rowAt, modeAt, rowAllowed, entryRow, flagFault}
+use Rattle.params.specs.Allowed.{rowAt, rowAllowed, entryRow, flagFault}
 use Rattle.params.proofs.FaultLaws.{allowed-entry}
 use Rattle.matrix.specs.declared.Expanded.the-variants.{Done}
 use Rattle.matrix.specs.Raw.{weightOf, refused}
 use Rattle.matrix.specs.Expanded.{replyOf, kindAnswer, expandAnswer}
-use Rattle.dequant.specs.Set.{part, setLent, expandSet}
+use Rattle.dequant.specs.Set.{part, expandSet}
 use Rattle.dequant.proofs.Lent.{all-samples, by-samples}
 use Rattle.dequant.proofs.Kindwise.{part-length}
 use Rattle.promises.proofs.Accepts.{raw-accepts, alone, set-accepts}
@@ -32,6 +31,7 @@ abbrev pub many : ℕ → List ℕ → List ℕ
 many zero row = []
 many (suc n) row = row ++ many n row
 
+-- they are 128 numbers each
 pub many-length : (n : ℕ) (row : List ℕ) → length row ≡ 128 → length (many n row) ≡ n * 128
 many-length zero row l = refl
 many-length (suc n) row l = length-append row (many n row) ∙ ap (λ (a : ℕ). a + length (many n row)) l ∙ ap (λ (a : ℕ). 128 + a) (many-length n row l) ∙ sum n
@@ -39,6 +39,7 @@ many-length (suc n) row l = length-append row (many n row) ∙ ap (λ (a : ℕ).
     sum : (n : ℕ) → 128 + n * 128 ≡ suc n * 128
     sum n = omega arith
 
+-- dropping in two steps
 pub drop-more : (a b : ℕ) (l : List ℕ) → drop (a + b) l ≡ drop b (drop a l)
 drop-more zero b l = ap (λ (n : ℕ). drop n l) (native.Mathlib.Nat.zero-add b)
 drop-more (suc a) b [] = ap (λ (n : ℕ). drop n []) (native.Mathlib.Nat.suc-add a b) ∙ sym (lib.Seq.drop-nil b)
@@ -67,7 +68,7 @@ one-fine = refl
 ones-accepted : (k : ℕ) (zs : List ℤ) → k < 17 → length zs ≡ placesOf k → ((i : ℕ) → i < placesOf k → getD zs i (pos 0) ≡ pos 1) → kindAnswer oneRow zs k ≡ Done
 ones-accepted k zs h l f = raw-accepts k oneRow zs (one-allowed k h) refl l (λ i g. ap (λ (z : ℤ). refused (weightOf (half 0x3c00) z)) (f i g) ∙ one-fine)
 
--- each kind by itself answers DONE
+-- each kind by itself, lent its row, 3 x width x height samples of 1 and two outputs of that length, answers DONE
 pub ones-done : (k : ℕ) → k < 17 → replyOf (expandAnswer k oneRow (replicate (placesOf k) (pos 1)) (placesOf k) (placesOf k)) ≡ 0 ∷ []
 ones-done k h =
     ap replyOf (alone k oneRow (replicate (placesOf k) (pos 1)) h refl (length-replicate (placesOf k) (pos 1)) (one-allowed k h)
@@ -98,6 +99,6 @@ set-of-ones zs l f =
 same-samples : (n : ℕ) → n ≡ 394752 → expandSet (many 17 oneRow) (replicate n (pos 1)) 394752 394752 ≡ Done
 same-samples n e = set-of-ones (replicate n (pos 1)) (length-replicate n (pos 1) ∙ e) (λ i h. getD-replicate n i (pos 1) (pos 0) (lt-of-lt-of-le h (le-of-eq (sym e))))
 
--- all 17 as a set answer DONE
+-- all 17 as a set, lent 394,752 samples of 1 and two arenas of that length, answer DONE
 pub ones-set-done : replyOf (expandSet (many 17 oneRow) (replicate 394752 (pos 1)) 394752 394752) ≡ 0 ∷ []
 ones-set-done = ap replyOf (same-samples 394752 refl)

@@ -3,39 +3,33 @@ use mathlib.Core.Path.{_≡_, refl, sym, ap, _∙_, subst}
 use mathlib.Core.Bool.{Bool, true, false, cond, not, _&&_, _||_, true≢false}
 use mathlib.Core.List.{List, [], _∷_}
 use Prim.Native.Nat.{ℕ, zero, suc, _+_, _*_, _%_, _≤_, _<_}
-use native.Mathlib.Nat.{le-trans, le-of-suc-le-suc, not-suc-le-zero, mul-le-mul-right, mul-add-mod-self-right, mod-eq-of-lt, zero-lt-suc}
+use native.Mathlib.Nat.{le-trans, le-of-suc-le-suc, not-suc-le-zero, mul-le-mul-right, mul-add-mod-self-right, mod-eq-of-lt}
 use native.Mathlib.Omega.{arith}
 use borrow.Author.Tests.{eqb-true, eqb-false, ne-eqb, leb-true, not-true}
-use lib.Dec.{T, leb, ltb, eqb, leb→le, ltb→lt, lt→ltb, lit<, lit≤}
+use lib.Dec.{T, leb, ltb, eqb, leb→le, lit<}
 use lib.ListN.{length, getD, take, drop}
 use lib.Seq.{getD-take, getD-drop}
-use lib.Ieee.{Float, nan, fin, binary32, fits, round, neg, mul}
+use lib.Ieee.{Float, nan, binary32, fits, mul}
 use lib.Ieee.Fits.{and-l, and-r, and-i}
 use lib.Ieee.Scale.{finite}
-use Rattle.transform.proofs.Laws.{below, at, side}
+use Rattle.transform.proofs.Laws.{below, at}
 use Rattle.bitstream.specs.Half.{half}
 use Rattle.bitstream.specs.Half as halves
 use Rattle.params.specs.Row.{fixed, lists}
 use Rattle.params.specs.Allowed.{allFine, allZero, countOk, entryRow, flagRow, rowAllowed}
 use Rattle.bands.specs.Bands.{atOf}
 use Rattle.bands.specs.Quant.{channelOf}
-use Rattle.bands.specs.Table.{tab}
 use Rattle.bands.proofs.TableLaws.{getD-tab}
 use Rattle.bands.proofs.MultRange.{mild}
 use Rattle.bands.proofs.Formed.{Given, Own, starts}
 use Rattle.bands.proofs.Halves.{half-held, half-mild, first64, first-held, first-finite, first-starts}
 use Rattle.matrix.specs.declared.numbers.Numbers.{Numbers}
-use Rattle.matrix.specs.Defaults.{defaults, defaultMode, defaultFirst, defaultSecond}
+use Rattle.matrix.specs.Defaults.{defaultMode, defaultFirst, defaultSecond}
 use Rattle.matrix.specs.Numbers.{each, readNumbers, defaultNumbers, defaultValue, numbersOf, numberOf, count, begins, opening, times64, bandNumber, listOf}
 use Rattle.matrix.proofs.Chain.{left, right}
-use Rattle.matrix.proofs.RowFacts.{Facts, facts}
+use Rattle.matrix.proofs.RowFacts.{facts}
 
 -- ---- every slot from 3 on holds a half float that reading lets pass
-fine-at : (l : List ℕ) (i : ℕ) → allFine l ≡ true → halves.barred (getD l i 0) ≡ false
-fine-at [] i e = refl
-fine-at (v ∷ l) zero e = not-true (halves.barred v) (left (not (halves.barred v)) (allFine l) e)
-fine-at (v ∷ l) (suc i) e = fine-at l i (right (not (halves.barred v)) (allFine l) e)
-
 zero-at : (l : List ℕ) (i : ℕ) → allZero l ≡ true → halves.barred (getD l i 0) ≡ false
 zero-at [] i e = refl
 zero-at (v ∷ l) zero e = ap halves.barred (eqb-true v 0 (left (eqb v 0) (allZero l) e))
@@ -50,9 +44,6 @@ split-at (suc n) (v ∷ l) (suc i) f z = split-at n l i (right (not (halves.barr
 entry-fine : (k : ℕ) (row : List ℕ) → entryRow k row ≡ true → (i : ℕ) → halves.barred (getD row (3 + i) 0) ≡ false
 unfolding entryRow
 entry-fine k row e i =
-    let m = getD row 0 0 in
-    let c = getD row 1 0 in
-    let d = getD row 2 0 in
     let e1 = right (eqb (length row) 128) _ e in
     let e2 = right (ltb (getD row 0 0) 8) _ e1 in
     let e3 = right (Rattle.params.specs.Row.allowed k (getD row 0 0)) _ e2 in
@@ -71,7 +62,7 @@ flag-mode row e =
     first [] e = refl
     first (v ∷ l) e = eqb-true v 0 (left (eqb v 0) (allZero l) e)
 
--- a row that passes the ROW check and is not of mode 0
+-- a row that passes the ROW check and is not of mode 0: no slot from 3 on has exponent 31
 pub row-fine : (k : ℕ) (row : List ℕ) → rowAllowed k row ≡ true → (getD row 0 0 ≡ 0 → ⊥) → (i : ℕ) → halves.barred (getD row (3 + i) 0) ≡ false
 unfolding rowAllowed
 row-fine k row e n0 i = go (entryRow k row) (eqb k 0) refl refl (right (ltb k 17) (entryRow k row || (eqb k 0 && flagRow row)) e)
@@ -97,7 +88,7 @@ within-123 m c d h e f =
     room : (x c d a b : ℕ) → c ≤ a → d ≤ b → 3 * x + 3 * a + 3 * b ≤ 123 → 3 * x + 3 * c + 3 * d ≤ 123
     room x c d a b p q r = omega arith
 
--- number j of list l
+-- number j of list l is one of them
 pub place : (n : Numbers) (l j : ℕ) → 3 * each (n .mode) + 3 * n .first + 3 * n .second ≤ 123 → j < 3 * count n l → begins n l + j < 123
 place n zero j h g = room (each (n .mode)) (n .first) (n .second) j h g
   where
@@ -112,6 +103,7 @@ place n (suc l) j h g = room (each (n .mode)) (n .first) (n .second) j h g
 abbrev pub listNumber : Numbers → ℕ → ℕ → ℕ → Float
 listNumber n l c = atOf (channelOf (listOf n l) (count n l) c)
 
+-- place i of channel c, of m each
 pub inside : (c i m : ℕ) → c < 3 → i < m → c * m + i < 3 * m
 inside c i m h g = le-trans (lower (c * m) i m g) (top c m h)
   where
@@ -121,6 +113,7 @@ inside c i m h g = le-trans (lower (c * m) i m g) (top c m h)
     top : (c m : ℕ) → c < 3 → c * m + m ≤ 3 * m
     top c m h = omega (arith, mul-le-mul-right m (le-of-suc-le-suc h))
 
+-- it is number c x count + i of the whole list
 pub at-place : (n : Numbers) (l c i : ℕ) → c < 3 → i < count n l → listNumber n l c i ≡ bandNumber n l (c * count n l + i)
 unfolding listOf
 at-place n l c i h g =
@@ -166,7 +159,6 @@ module _ (row : List ℕ) (fine : (i : ℕ) → halves.barred (getD row (3 + i) 
   read-meets : (l c i : ℕ) → c < 3 → i < count (readNumbers row) l → T (meets i (bandNumber (readNumbers row) l (c * count (readNumbers row) l + i)))
   unfolding bandNumber
   read-meets l c i h g =
-      let n = readNumbers row in
       let m = count (readNumbers row) l in
       let j = c * count (readNumbers row) l + i in
       subst (λ (x : Float). T (meets i (times64 (opening true ((c * count (readNumbers row) l + i) % count (readNumbers row) l)) x)))
@@ -217,6 +209,7 @@ read-own row fine room e c h i g =
     subst (λ (x : Float). T (owns i x)) (sym (read-number row fine room c (5 + i) e h (omega arith))) (own-half i (getD row (3 + (c * 9 + (5 + i))) 0) (fine (c * 9 + (5 + i))))
 
 -- ---- by default: one computed test over the table of defaults
+-- no default has more than 123 numbers
 pub defaults-room : (k : ℕ) → k < 17 → 3 * each (defaultMode k) + 3 * defaultFirst k + 3 * defaultSecond k ≤ 123
 defaults-room k h = leb→le (3 * each (defaultMode k) + 3 * defaultFirst k + 3 * defaultSecond k) 123 (at (λ k. leb (3 * each (defaultMode k) + 3 * defaultFirst k + 3 * defaultSecond k) 123) 17 tt k h)
 
@@ -262,6 +255,7 @@ default-own k c i z e h g =
     (or-right (eqb (defaultMode k) 5) (ownTest k) (at (λ k. not (eqb (defaultMode k) 5) || ownTest k) 17 own-test k z) (borrow.Author.Tests.eq-eqb (defaultMode k) 5 e)) c h) i g)
 
 -- ---- either: a row that passes the ROW check
+-- its kind is one of the 17
 pub named : (k : ℕ) (row : List ℕ) → rowAllowed k row ≡ true → k < 17
 unfolding rowAllowed
 named k row e = borrow.Author.Tests.ltb-true k 17 (left (ltb k 17) _ e)

@@ -1,33 +1,28 @@
 -- Numbers whose bands and own numbers lie from 2 ^ -24 to 2 ^ 40 are accepted: no band is refused, and no weight is. Assumes nothing.
 use mathlib.Core.Path.{_≡_, refl, sym, ap, _∙_, subst}
-use mathlib.Core.Logic.{⊎-elim}
 use mathlib.Core.Bool.{Bool, true, false, cond, not, _&&_, _||_}
 use mathlib.Core.List.{List, [], _∷_}
-use Prim.Native.Nat.{ℕ, zero, suc, _+_, _-_, _*_, _/_, _%_, _^_, _≤_, _<_}
-use native.Mathlib.Nat.{mod-lt, div-lt-iff-lt-mul, le-refl, le-trans, le-of-eq, le-of-lt, le-suc, lt-suc-self, lt-of-lt-of-le, lt-of-le-of-lt, lt-irrefl, le-of-suc-le-suc, not-suc-le-zero, mul-one, one-mul, zero-mul, mul-assoc, mul-comm, mul-right-comm, mul-pos, mul-le-mul-right, mul-le-mul-left, le-of-mul-le-mul-right}
+use Prim.Native.Nat.{ℕ, zero, suc, _+_, _*_, _/_, _%_, _^_, _≤_, _<_}
+use native.Mathlib.Nat.{mod-lt, div-lt-iff-lt-mul, le-refl, le-trans, le-of-eq, le-suc, lt-suc-self, lt-of-lt-of-le, lt-of-le-of-lt, not-suc-le-zero, mul-one, one-mul, mul-comm, mul-right-comm, mul-pos, mul-le-mul-right, mul-le-mul-left, le-of-mul-le-mul-right}
 use native.Mathlib.Omega.{arith}
-use borrow.Author.Tests.{le-ltb, ne-eqb, eq-eqb, eqb-false}
-use lib.Dec.{T, ltb, eqb, leb, leb→le, ltb→lt, lit<, lit≤}
+use borrow.Author.Tests.{le-ltb, ne-eqb, eq-eqb}
+use lib.Dec.{ltb, eqb, leb, leb→le, lit<, lit≤}
 use lib.IntN.{ℤ, pos}
 use lib.ListN.{getD}
-use lib.Pow.{pow-pos, pow-mono}
-use lib.Ieee.{Float, nan, inf, fin, binary32, up, down, size, fits, div, lt, le, eq, ne}
-use lib.Ieee.Fits.{and-l, and-r, up-pos, down-pos}
-use lib.Ieee.Exact.{HasValue}
-use lib.Ieee.Positive.{num, den, den-pos, positive, positive-finite, value→cross, positive-of-value}
+use lib.Pow.{pow-pos}
+use lib.Ieee.{Float, nan, inf, fin, binary32, up, down, size, div, lt, le, eq, ne}
+use lib.Ieee.Fits.{down-pos}
 use Rattle.transform.specs.Kinds.{widthOf, heightOf, areaOf, placesOf}
 use Rattle.transform.proofs.Laws.{at, width-le, height-le}
 use Rattle.bands.specs.Bands.{nought, one, atOf, bandAt, barred, sound}
 use Rattle.bands.specs.Freqs.{interpolated, freqWeight}
-use Rattle.bands.specs.Quant.{soundOf, channelOf}
 use Rattle.bands.proofs.Units.{Units, div-units}
-use Rattle.bands.proofs.WholeUnits.{whole-number, plain}
 use Rattle.bands.proofs.Ranged.{Banded, round-banded}
 use Rattle.matrix.specs.declared.numbers.Numbers.{Numbers}
 use Rattle.matrix.specs.declared.Expanded.{Expanded}
 use Rattle.matrix.specs.declared.Expanded.the-variants.{Done, Band}
-use Rattle.matrix.specs.Raw.{limit, refused, weightOf}
-use Rattle.matrix.specs.Numbers.{numbersOf, numberOf, listOf, count}
+use Rattle.matrix.specs.Raw.{refused, weightOf}
+use Rattle.matrix.specs.Numbers.{numbersOf, numberOf, count}
 use Rattle.matrix.specs.Expanded.{orElse, listAnswer, bandAnswer, kindAnswer}
 use Rattle.matrix.specs.Views.{Shaped}
 use Rattle.matrix.specs.Weight.{weightAt, gridWeight, mode1, mode2, mode3, mode4, mode5, corner, from, layer, rule, weightIn}
@@ -41,8 +36,6 @@ use Rattle.promises.proofs.WeightBetween.{grid-within, freq-within}
 fine-fin : (m : ℕ) (e : ℤ) → 0 < m * up e → m * up e < 100000000 * down e → refused (fin false m e) ≡ false
 unfolding refused le ne lt eq
 fine-fin m e low high =
-    let n = m * up e * 1 in
-    let l = 390625 * 2 ^ 8 * down e in
     ap (λ (b : Bool). (b || (eqb (390625 * 2 ^ 8 * down e) (m * up e * 1) && (true || eqb (390625 * 2 ^ 8 * down e) 0))) || (le (fin false m e) nought || ne (fin false m e) (fin false m e))) (le-ltb (390625 * 2 ^ 8 * down e) (m * up e * 1) (top (m * up e) (down e) high))
     ∙ ap (λ (b : Bool). (b && (true || eqb (390625 * 2 ^ 8 * down e) 0)) || (le (fin false m e) nought || ne (fin false m e) (fin false m e))) (ne-eqb (390625 * 2 ^ 8 * down e) (m * up e * 1) (λ z. apart (m * up e) (down e) high z))
     ∙ ap (λ (b : Bool). (b || (eqb (m * up e * 1) (0 * 1 * down e) && (true || eqb (m * up e * 1) 0))) || ne (fin false m e) (fin false m e)) (le-ltb (m * up e * 1) (0 * 1 * down e) (none (m * up e) (down e)))
@@ -195,6 +188,7 @@ module _ (n : Numbers) (k : ℕ) (t : Tame n) where
       ap (λ (s : ℕ). cond (ltb s (count n l)) (Band k c s) Done) (sound-every (listNumber n l c) (count n l) (λ i g. banded-passes (bandAt (listNumber n l c) i) (t .bands l c i h g)))
       ∙ ap (λ (b : Bool). cond b (Band k c (count n l)) Done) (le-ltb (count n l) (count n l) (le-refl (count n l)))
 
+  -- no band of a tame list is refused
   pub tame-bands : (m : ℕ) → m ≤ 3 → bandAnswer n k m ≡ Done
   unfolding bandAnswer
   tame-bands zero h = refl

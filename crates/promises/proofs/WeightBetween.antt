@@ -1,12 +1,12 @@
 -- If all bands of a list lie between two bounds, so does every weight of a grid, and every number that mode 5 interpolates, up to two parts in 1,000,000. Assumes nothing.
-use mathlib.Core.Path.{_≡_, refl, sym, ap, _∙_, subst}
+use mathlib.Core.Path.{_≡_, refl, sym, subst}
 use mathlib.Core.Logic.{⊎-elim}
 use mathlib.Core.Bool.{Bool, true, false, cond}
 use mathlib.Core.List.{List}
-use Prim.Native.Nat.{ℕ, zero, suc, _+_, _-_, _*_, _^_, _≤_, _<_}
-use native.Mathlib.Nat.{le-trans, le-of-eq, lt-of-lt-of-le, mul-le-mul}
+use Prim.Native.Nat.{ℕ, _+_, _-_, _≤_, _<_}
+use native.Mathlib.Nat.{mul-le-mul}
 use native.Mathlib.Omega.{arith}
-use borrow.Author.Tests.{eqb-true, eqb-false}
+use borrow.Author.Tests.{eqb-false}
 use lib.Dec.{T, eqb, lit≤}
 use lib.ListN.{length}
 use lib.IntN.{pos}
@@ -14,9 +14,9 @@ use lib.Ieee.{Float, binary32, fits, round, add, sub, mul, div, ofInt}
 use lib.Ieee.Fits.{div-fits}
 use Rattle.bands.specs.Bands.{atOf, bandAt}
 use Rattle.bands.specs.Distance.{distanceOf}
-use Rattle.bands.specs.Position.{reachOf, positionOf, indexOf, fractionOf, Cut}
+use Rattle.bands.specs.Position.{reachOf, positionOf, indexOf, Cut}
 use Rattle.bands.specs.Power.{P}
-use Rattle.bands.specs.Weights.{stepsOf, segmentWeight, between, bandWeight}
+use Rattle.bands.specs.Weights.{segmentWeight, between, bandWeight}
 use Rattle.bands.specs.Freqs.{freq, freqPosition, interpolated, freqWeight}
 use Rattle.bands.proofs.Ranged.{Banded}
 use Rattle.promises.proofs.Steps.{steps-is}
@@ -41,14 +41,13 @@ module _ (lo hi : ℕ) (room : Room lo hi) (bs : ℕ → Float) (n : ℕ) (bands
   between-within : (p : Float) → T (fits binary32 p) → Cut n p → Within lo hi (between bs p)
   unfolding between segmentWeight
   between-within p held c =
-      let i = indexOf p in
       subst (λ (k : ℕ). Within lo hi (mul binary32 (bs (indexOf p)) (P (div binary32 (bs (indexOf p + 1)) (bs (indexOf p))) k))) (sym (steps-is p n c held))
       (segment-within lo hi room (bs (indexOf p)) (bs (indexOf p + 1)) (bands (indexOf p) (one-less (indexOf p) n (c .inside))) (bands (indexOf p + 1) (c .inside)) (c .n) (c .small))
     where
       one-less : (i n : ℕ) → i + 1 < n → i < n
       one-less i n h = omega arith
 
-  -- at row y, column x of a grid of width w and height h
+  -- at row y, column x of a grid of width w and height h; only for bounds that leave room (`Room`): a list with subnormal bands is not spoken of
   pub grid-within : (w h y x : ℕ) → 1 ≤ n → n ≤ 16 → 2 ≤ w → w ≤ 256 → 2 ≤ h → h ≤ 256 → y < h → x < w → Within lo hi (bandWeight bs n w h y x)
   unfolding bandWeight
   grid-within w h y x some few wide not-wider high not-higher row column = go (eqb n 1) refl
@@ -62,7 +61,7 @@ module _ (lo hi : ℕ) (room : Room lo hi) (bs : ℕ → Float) (n : ℕ) (bands
           between-within (positionOf (distanceOf x y (w - 1) (h - 1)) n) (position-held (distanceOf x y (w - 1) (h - 1)) n)
           (place-cut n w h y x (more (eqb-false n 1 e)) few wide not-wider high not-higher row column)
 
--- mode 5's number at a place of FREQS that has one
+-- mode 5's number at a place of FREQS that has one; only where all its four bands are above zero and leave room
 pub freq-within : (lo hi : ℕ) → Room lo hi → (ps : List Float) (k : ℕ) → length ps ≡ 4 → interpolated k ≡ true → ((i : ℕ) → i < 4 → Banded lo hi (bandAt (atOf ps) i)) → Within lo hi (freqWeight ps k)
 freq-within lo hi room ps k l on bands =
     subst (Within lo hi) (weight-is ps k l on) (between-within lo hi room (bandAt (atOf ps)) 4 bands (freqPosition k) (freq-held k) (freq-cut k (on-small k on) on))
