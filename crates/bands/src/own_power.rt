@@ -99,7 +99,7 @@ pub(crate) fn top_chain() -> [u64; 33]
 
 // y times those of a chain whose bit n has, each product divided by 2^31, downward. A turn for each bit
 // that n has, from the highest: the others leave y as it is.
-pub(crate) fn row(roots: &[u64; 33], n: u64, y: u64) -> u64
+fn row(roots: &[u64; 33], n: u64, y: u64) -> u64
     requires { ⌜ IsChain (now roots) ⌝ }
     requires { ⌜ (0 < y) × (y ≤ 2 ^ 31) × (n < 2 ^ 32) ⌝ }
     ensures { λ r. ⌜ r ≡ products (getD (now (roots .entry)) 0 0) n y 32 ⌝ }
@@ -132,7 +132,7 @@ fn nearest_shift(x: u64, k: u64) -> u64
 }
 
 // y * 2^i / 2^157 rounded once, for a y of 31 or 32 digits.
-pub(crate) fn rounded(y: u64, i: u64) -> f32
+fn rounded(y: u64, i: u64) -> f32
     requires { ⌜ (2 ^ 30 ≤ y) × (y < 2 ^ 32) × (1 ≤ i) × (i < 254) ⌝ }
     ensures { λ r. ⌜ r ≡ round binary32 false (y * 2 ^ i) (2 ^ 157) ⌝ }
 {

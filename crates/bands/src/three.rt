@@ -1,5 +1,6 @@
 // The powers of three ratios at one n, side by side: three products that do not wait for each other.
-// What P needs of the ratios of the three channels' bands lies in one table, 34 numbers each, and is lent, not copied.
+// What P needs of the ratios of the three channels' bands lies in one table, and is lent, not copied: 34 numbers a
+// ratio, 16 ratios (544 numbers) a channel.
 use crate::own_power::finish;
 use crate::own_power::second;
 use crate::own_power::start_of;
@@ -121,7 +122,7 @@ fn finish_three(e0: u64, e1: u64, e2: u64, n: u64, first: Three) -> Weights
     }
 }
 
-// The powers at n of the ratios that stand at `at`, and a channel (16 ratios) and two channels after it.
+// The powers at n of the ratios that stand at `at`, one channel after it and two.
 pub(crate) fn powers(t: &[u64; 1632], at: usize, n: u32) -> Weights
     requires { ⌜ (at ≤ 510) × Ready (now t) at × Ready (now t) (at + 544) × Ready (now t) (at + 1088) ⌝ }
     ensures { λ w. ⌜ (w .a ≡ powerIn (now (t .entry)) at n) × (w .b ≡ powerIn (now (t .entry)) (at + 544) n) × (w .c ≡ powerIn (now (t .entry)) (at + 1088) n) ⌝ }

@@ -29,8 +29,8 @@ pub(crate) fn interpolate(s: Segment) -> f32
     a * power(s.b / a, steps(s.fraction))
 }
 
-// The weights in the segments of three channels at one position. What P needs of their ratios lies in t, from
-// `at` on for the first channel.
+// The weights in the segments of three channels at one position: one fraction, so one n. What P needs of their
+// ratios is lent beside them: it lies in t, from `at` on for the first channel.
 fn interpolate_three(s0: Segment, s1: Segment, s2: Segment, t: &[u64; 1632], at: usize) -> Weights
     requires { ⌜ Stepped (s0 .fraction) × (s1 .fraction ≡ s0 .fraction) × (s2 .fraction ≡ s0 .fraction) ⌝ }
     requires { ⌜ (at ≤ 510) × Holds (now t) at (div binary32 (s0 .b) (s0 .a)) × Holds (now t) (at + 544) (div binary32 (s1 .b) (s1 .a)) × Holds (now t) (at + 1088) (div binary32 (s2 .b) (s2 .a)) ⌝ }
@@ -44,7 +44,7 @@ fn interpolate_three(s0: Segment, s1: Segment, s2: Segment, t: &[u64; 1632], at:
     }
 }
 
-// The weights of three channels at the position p.
+// The weights of three channels at the position p: one index, and a segment of each channel.
 pub(crate) fn weigh_three(bands: &[f32; 48], t: &[u64; 1632], count: u16, p: f32) -> Weights
     requires { ⌜ (count ≤ 16) × Cut count p × Held (now bands) count (now t) ⌝ }
     ensures { λ w. ⌜ (w .a ≡ between (bandIn (now (bands .entry)) 0) p) × (w .b ≡ between (bandIn (now (bands .entry)) 1) p) × (w .c ≡ between (bandIn (now (bands .entry)) 2) p) ⌝ }
