@@ -24,25 +24,25 @@ shared-slice-read-mode : tie.Need-shared-slice-read-mode
 shared-slice-read-mode c = let x = c .before .before .before in let a = x .args in let l : length (a .rows .now) ≡ 2176 = kind-long (a .rows .now) (a .samples .now) (x .pre .1 .1 .0) in search needs
 
 cast-put-mode : tie.Need-cast-put-mode
-cast-put-mode c = let x = c .before .before .before .before in let a = x .args in record { fits = omega (arith, kind-mode (a .rows .now) (a .samples .now) (x .pre .1 .1 .0) (x .pre .1 .1 .1) (a .kind) (search needs)) }
+cast-put-mode c = let x = c .before .before .before .before in let a = x .args in record { fits = omega (arith, kind-mode (a .rows .now) (a .samples .now) (x .pre .1 .1 .0) (x .pre .1 .1 .1) (a .kind) (x .pre .1 .0)) }
 
 put-mode-requires : tie.Need-put-mode-requires
-put-mode-requires c κs = let x = c .before .before .before .before in let a = x .args in (search needs, (search needs, kind-mode (a .rows .now) (a .samples .now) (x .pre .1 .1 .0) (x .pre .1 .1 .1) (a .kind) (search needs)))
+put-mode-requires c κs = let x = c .before .before .before .before in let a = x .args in (search needs, (search needs, kind-mode (a .rows .now) (a .samples .now) (x .pre .1 .1 .0) (x .pre .1 .1 .1) (a .kind) (x .pre .1 .0)))
 
 cast-part-start : tie.Need-cast-part-start
-cast-part-start c = let x = c .before .before .before .before .before .before .before in let a = x .args in record { fits = omega (arith, kind-mode (a .rows .now) (a .samples .now) (x .pre .1 .1 .0) (x .pre .1 .1 .1) (a .kind) (search needs)) }
+cast-part-start c = let x = c .before .before .before .before .before .before .before in let a = x .args in record { fits = omega (arith, kind-mode (a .rows .now) (a .samples .now) (x .pre .1 .1 .0) (x .pre .1 .1 .1) (a .kind) (x .pre .1 .0)) }
 
 part-start-requires : tie.Need-part-start-requires
 part-start-requires c κs = search needs
 
 cast-sample-count : tie.Need-cast-sample-count
-cast-sample-count c = let x = c .before .before .before .before .before .before .before .before in let a = x .args in record { fits = omega (arith, kind-mode (a .rows .now) (a .samples .now) (x .pre .1 .1 .0) (x .pre .1 .1 .1) (a .kind) (search needs)) }
+cast-sample-count c = let x = c .before .before .before .before .before .before .before .before in let a = x .args in record { fits = omega (arith, kind-mode (a .rows .now) (a .samples .now) (x .pre .1 .1 .0) (x .pre .1 .1 .1) (a .kind) (x .pre .1 .0)) }
 
 sample-count-requires : tie.Need-sample-count-requires
 sample-count-requires c κs = search needs
 
 add-stop : tie.Need-add-stop
-add-stop c = let x = c .before .before .before .before .before .before .before .before .before in let a = x .args in record { fits = omega (arith, kind-few (a .rows .now) (a .samples .now) (x .pre .1 .1 .0) (x .pre .1 .1 .1) (a .kind) (search needs) _ refl _ _ (c .before .part-start .ensures) (c .sample-count .ensures)) }
+add-stop c = let x = c .before .before .before .before .before .before .before .before .before in let a = x .args in record { fits = omega (arith, kind-few (a .rows .now) (a .samples .now) (x .pre .1 .1 .0) (x .pre .1 .1 .1) (a .kind) (x .pre .1 .0) _ refl _ _ (c .before .part-start .ensures) (c .sample-count .ensures)) }
 
 add-to : tie.Need-add-to
 add-to c = search needs
@@ -60,7 +60,7 @@ part-put-parts-end : tie.Need-part-put-parts-end
 part-put-parts-end c = let x = c .before .before .before .before .before .before .before .before .before in let a = x .args in let l : length (a .rows .now) ≡ 2176 = kind-long (a .rows .now) (a .samples .now) (x .pre .1 .1 .0) in search needs
 
 mul-put-parts-2 : tie.Need-mul-put-parts-2
-mul-put-parts-2 c = let x = c .before .before .before .before .before .before .before .before .before .before in let a = x .args in record { fits = omega (arith, kind-few (a .rows .now) (a .samples .now) (x .pre .1 .1 .0) (x .pre .1 .1 .1) (a .kind) (search needs) _ refl _ _ (c .before .before .part-start .ensures) (c .before .sample-count .ensures)) }
+mul-put-parts-2 c = let x = c .before .before .before .before .before .before .before .before .before .before in let a = x .args in record { fits = omega (arith, kind-few (a .rows .now) (a .samples .now) (x .pre .1 .1 .0) (x .pre .1 .1 .1) (a .kind) (x .pre .1 .0) _ refl _ _ (c .before .before .part-start .ensures) (c .before .sample-count .ensures)) }
 
 sub-put-parts-2 : tie.Need-sub-put-parts-2
 sub-put-parts-2 c = search needs
@@ -69,16 +69,16 @@ part-put-parts-start-2 : tie.Need-part-put-parts-start-2
 part-put-parts-start-2 c = search needs
 
 part-put-parts-end-2 : tie.Need-part-put-parts-end-2
-part-put-parts-end-2 c = let x = c .before .before .before .before .before .before .before .before .before .before in let a = x .args in let m : c .before .before .part-start .result + c .before .sample-count .result ≤ length (a .samples .now) = kind-room (a .rows .now) (a .samples .now) (x .pre .1 .1 .0) (x .pre .1 .1 .1) (a .kind) (search needs) _ refl _ _ (c .before .before .part-start .ensures) (c .before .sample-count .ensures) in search needs
+part-put-parts-end-2 c = let x = c .before .before .before .before .before .before .before .before .before .before in let a = x .args in let m : c .before .before .part-start .result + c .before .sample-count .result ≤ length (a .samples .now) = kind-room (a .rows .now) (a .samples .now) (x .pre .1 .1 .0) (x .pre .1 .1 .1) (a .kind) (x .pre .1 .0) _ refl _ _ (c .before .before .part-start .ensures) (c .before .sample-count .ensures) in search needs
 
 put-parts-requires : tie.Need-put-parts-requires
-put-parts-requires c κs = let x = c .before .before .before .before .before .before .before .before .before .before .before .before in let a = x .args in (omega (arith, c .before .before .before .before .before .before .before .put-mode .ensures .short), kind-part (a .rows .now) (a .samples .now) (x .pre .1 .1 .0) (x .pre .1 .1 .1) (a .kind) (search needs) _ refl _ _ (c .before .before .before .before .part-start .ensures) (c .before .before .before .sample-count .ensures))
+put-parts-requires c κs = let x = c .before .before .before .before .before .before .before .before .before .before .before .before in let a = x .args in (omega (arith, c .before .before .before .before .before .before .before .put-mode .ensures .short), kind-part (a .rows .now) (a .samples .now) (x .pre .1 .1 .0) (x .pre .1 .1 .1) (a .kind) (x .pre .1 .0) _ refl _ _ (c .before .before .before .before .part-start .ensures) (c .before .before .before .sample-count .ensures))
 
 same-length : tie.Need-same-length
 same-length c = search needs
 
 returns : tie.Need-returns
-returns c = let x = c .before .before .before .before .before .before .before .before .before .before .before .before .before .before .before in let a = x .args in kind-put (a .rows .now) (a .samples .now) (x .pre .1 .1 .0) (x .pre .1 .1 .1) (a .kind) (search needs) _ refl _ _ (c .before .before .before .before .before .before .before .part-start .ensures) (c .before .before .before .before .before .before .sample-count .ensures) (a .out .now) _ _ (a .at) _ _ (c .before .before .before .before .before .before .before .before .before .before .put-mode .ensures) (c .before .before .put-parts .ensures)
+returns c = let x = c .before .before .before .before .before .before .before .before .before .before .before .before .before .before .before in let a = x .args in kind-put (a .rows .now) (a .samples .now) (x .pre .1 .1 .0) (x .pre .1 .1 .1) (a .kind) (x .pre .1 .0) _ refl _ _ (c .before .before .before .before .before .before .before .part-start .ensures) (c .before .before .before .before .before .before .sample-count .ensures) (a .out .now) _ _ (a .at) _ _ (c .before .before .before .before .before .before .before .before .before .before .put-mode .ensures) (c .before .before .put-parts .ensures)
 
 pub put-kind-spec : {M : Type 1} → statement M
 put-kind-spec =
