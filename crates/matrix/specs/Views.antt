@@ -2,15 +2,20 @@
 use mathlib.Core.Bool.{true}
 use mathlib.Core.Path.{_≡_}
 use mathlib.Core.List.{List, map}
-use Prim.Native.Nat.{ℕ, _*_, _/_, _%_, _≤_, _<_}
-use lib.Ieee.{Float, binary32, div}
+use Prim.Native.Nat.{ℕ, _+_, _*_, _/_, _%_, _≤_, _<_}
+use lib.ListN.{getD}
+use lib.Ieee.{Float, nan, binary32, div}
 use Rattle.transform.specs.Kinds.{widthOf, heightOf, areaOf, placesOf}
 use Rattle.bands.specs.Bands.{one}
 use Rattle.bands.specs.Table.{tab}
 use Rattle.bands.specs.Quant.{gridded, soundOf, dctTable}
 use Rattle.matrix.specs.declared.numbers.Numbers.{Numbers}
-use Rattle.matrix.specs.Numbers.{listOf, count}
+use Rattle.matrix.specs.Numbers.{defaultValue, listOf, count}
 use Rattle.matrix.specs.Weight.{rule}
+
+-- a list of every kind's defaults, 51 places a kind
+pub record Tabled (l : List Float) : Type 0 where
+  pub each : (k i : ℕ) → k < 17 → i < 51 → getD l (k * 51 + i) nan ≡ defaultValue k i
 
 -- no list has more than 16 bands a channel
 pub record Few (n : Numbers) : Type 0 where

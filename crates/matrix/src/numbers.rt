@@ -4,7 +4,7 @@ ghost use mathlib.Core.Path.{_≡_};
 ghost use Prim.Native.Nat.{_+_, _*_, _≤_, _<_};
 ghost use lib.ListN.{length};
 ghost use Rattle.matrix.specs.Numbers.{each, defaultValue, defaultNumbers, readNumbers, numbersOf, times64, leading, opening, numberOf, bandNumber, begins, count};
-ghost use Rattle.matrix.specs.Views.{Few};
+ghost use Rattle.matrix.specs.Views.{Few, Tabled};
 ghost use Rattle.matrix.specs.Defaults.{defaultMode, defaultFirst, defaultSecond};
 
 pub struct Numbers {
@@ -23,22 +23,30 @@ const SECONDS: [u16; 17] = [0, 0, 0, 0, 0, 0, 0, 0, 0, 0, 4, 0, 0, 0, 0, 0, 0];
 
 const EACH: [usize; 6] = [0, 3, 6, 2, 1, 9];
 
+// The table of all defaults: a constant is laid out anew wherever it is named, so it is named once.
+fn default_table() -> [f32; 867]
+    ensures { λ r. ⌜ Tabled r ⌝ }
+{
+    DEFAULTS
+}
+
 // Value i of a kind's defaults, in header order; 0 past the last.
-fn default_value(kind: usize, i: usize) -> f32
-    requires { ⌜ kind < 17 ⌝ }
+fn default_value(all: &[f32; 867], kind: usize, i: usize) -> f32
+    requires { ⌜ Tabled (now all) × (kind < 17) ⌝ }
     ensures { λ r. ⌜ r ≡ defaultValue kind i ⌝ }
 {
-    if i < 51 { DEFAULTS[kind * 51 + i] } else { 0.0 }
+    if i < 51 { all[kind * 51 + i] } else { 0.0 }
 }
 
 pub(crate) fn default_numbers(kind: usize) -> Numbers
     requires { ⌜ kind < 17 ⌝ }
     ensures { λ r. ⌜ r ≡ defaultNumbers kind ⌝ }
 {
+    let all = default_table();
     let mut values = [0.0f32; 123];
     let mut i: usize = 0;
     while i < 123 {
-        values[i] = default_value(kind, i);
+        values[i] = default_value(&all, kind, i);
         i += 1;
     }
     Numbers {
