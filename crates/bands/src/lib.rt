@@ -15,6 +15,7 @@ pub use list::mult;
 pub use list::sound_bands;
 pub use own_power::power;
 pub use quant::Banded;
+pub use quant::clear;
 pub use quant::dct_quant_weights;
 pub use root::root32;
 pub use whole::whole_root;

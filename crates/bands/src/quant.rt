@@ -108,7 +108,8 @@ fn band_answer(numbers: &[f32], count: usize) -> Banded
     Banded::Done
 }
 
-fn clear(s: &mut [f32])
+// All zero.
+pub fn clear(s: &mut [f32])
     ensures { λ r. ⌜ now (s .exit) ≡ replicate (length (now (s .entry))) nought ⌝ }
 {
     let mut i = 0;

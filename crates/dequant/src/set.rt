@@ -1,6 +1,6 @@
 // All 17 kinds of a set, from its rows and samples to the two arenas.
+use bands::clear;
 use matrix::Expanded;
-use matrix::clear;
 use matrix::expand_kind;
 use matrix::is_done;
 use params::RowCheck;

@@ -1,5 +1,6 @@
 // The two outputs of a kind: its weights tested, the transposed ones, and zeros where a weight is refused.
 use crate::Expanded;
+use bands::clear;
 use transform::Kind;
 ghost use mathlib.Core.Path.{_≡_};
 ghost use Prim.Native.Nat.{_+_, _*_, _≤_, _<_};
@@ -48,17 +49,6 @@ pub(crate) fn invert(s: &mut [f32])
     let mut i = 0;
     while i < s.len() {
         s[i] = 1.0 / s[i];
-        i += 1;
-    }
-}
-
-// All zero.
-pub fn clear(s: &mut [f32])
-    ensures { λ r. ⌜ now (s .exit) ≡ replicate (length (now (s .entry))) nought ⌝ }
-{
-    let mut i = 0;
-    while i < s.len() {
-        s[i] = 0.0;
         i += 1;
     }
 }
