@@ -33,14 +33,19 @@ pub fn weight(x: f32) -> bool {
     io::print_hex(STDOUT_FILENO, bits(x), 8)
 }
 
+// A weight, a comma before each but the first.
+pub fn item(i: usize, x: f32) {
+    if i > 0 {
+        show::comma();
+    }
+    weight(x);
+}
+
 // The weights of a part, commas between them.
 pub fn weights(part: &[f32]) {
     let mut i = 0;
     while i < part.len() {
-        if i > 0 {
-            show::text(b",");
-        }
-        weight(part[i]);
+        item(i, part[i]);
         i += 1;
     }
 }
@@ -52,90 +57,93 @@ pub fn weight_at(part: &[f32], i: usize) {
     }
 }
 
-// A number after a blank.
-fn next(n: usize) {
-    show::text(b" ");
-    show::decimal(n as u64);
+fn one(number: u64, kind: usize) -> bool {
+    show::decimal(number);
+    show::next(kind as u64)
+}
+
+fn three(number: u64, kind: usize, channel: usize, last: usize) -> bool {
+    one(number, kind);
+    show::next(channel as u64);
+    show::next(last as u64)
 }
 
 // The reply of an expansion: document 01's number, and its values.
-pub fn reply(r: Expanded) {
+pub fn reply(r: Expanded) -> bool {
     match r {
-        Expanded::Done => {
-            show::text(b"0");
-        }
-        Expanded::Lent => {
-            show::text(b"1");
-        }
-        Expanded::Row { kind } => {
-            show::text(b"6");
-            next(kind);
-        }
+        Expanded::Done => show::decimal(0),
+        Expanded::Lent => show::decimal(1),
+        Expanded::Row { kind } => one(6, kind),
         Expanded::Band {
             kind,
             channel,
             band,
-        } => {
-            show::text(b"7");
-            next(kind);
-            next(channel);
-            next(band);
-        }
+        } => three(7, kind, channel, band),
         Expanded::Weight {
             kind,
             channel,
             place,
-        } => {
-            show::text(b"8");
-            next(kind);
-            next(channel);
-            next(place);
-        }
+        } => three(8, kind, channel, place),
     }
 }
 
-// A refused expansion, a line for each number; DONE writes nothing.
-pub fn refused(r: Expanded) {
+fn refused_kind(number: u64, kind: usize) -> bool {
+    show::refusal(number);
+    show::kind(kind)
+}
+
+fn refused_channel(number: u64, kind: usize, channel: usize) -> bool {
+    refused_kind(number, kind);
+    show::line(b"channel=", channel as u64)
+}
+
+fn refused_band(kind: usize, channel: usize, band: usize) -> bool {
+    refused_channel(7, kind, channel);
+    show::line(b"band=", band as u64)
+}
+
+fn refused_weight(kind: usize, channel: usize, place: usize) -> bool {
+    refused_channel(8, kind, channel);
+    show::line(b"place=", place as u64)
+}
+
+// Whether an expansion was done. A refusal is written, a line for each number.
+fn is_done(r: Expanded) -> bool {
     match r {
-        Expanded::Done => {}
-        Expanded::Lent => {
-            show::line(b"refused=", 1);
+        Expanded::Done => {
+            return true;
         }
-        Expanded::Row { kind } => {
-            show::line(b"refused=", 6);
-            show::line(b"kind=", kind as u64);
-        }
+        Expanded::Lent => show::refusal(1),
+        Expanded::Row { kind } => refused_kind(6, kind),
         Expanded::Band {
             kind,
             channel,
             band,
-        } => {
-            show::line(b"refused=", 7);
-            show::line(b"kind=", kind as u64);
-            show::line(b"channel=", channel as u64);
-            show::line(b"band=", band as u64);
-        }
+        } => refused_band(kind, channel, band),
         Expanded::Weight {
             kind,
             channel,
             place,
-        } => {
-            show::line(b"refused=", 8);
-            show::line(b"kind=", kind as u64);
-            show::line(b"channel=", channel as u64);
-            show::line(b"place=", place as u64);
-        }
+        } => refused_weight(kind, channel, place),
     }
+    ;
+    false
+}
+
+// Whether a header is refused; what refuses it is written.
+fn refused_header(header: &[u8], rows: &mut [u16]) -> bool {
+    show::refused(params::read_header(header, 0, 0, rows))
+}
+
+fn expand_rows(rows: &[u16], straight: &mut [f32], transposed: &mut [f32]) -> bool {
+    is_done(dequant::expand(rows, &[], straight, transposed))
 }
 
 // Expands the set of a header without raw kinds; whether that was done. What refuses it is written.
 pub fn expand_header(header: &[u8], straight: &mut [f32], transposed: &mut [f32]) -> bool {
     let mut rows = [0u16; 2176];
-    let r = params::read_header(header, 0, 0, &mut rows);
-    if show::refused(r) {
+    if refused_header(header, &mut rows) {
         return false;
     }
-    let e = dequant::expand(&rows, &[], straight, transposed);
-    refused(e);
-    matrix::is_done(e)
+    expand_rows(&rows, straight, transposed)
 }

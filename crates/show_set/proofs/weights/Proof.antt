@@ -1,33 +1,27 @@
 -- `show_set::weights` is safe and ends. Assumes nothing.
-use lib.ListN.{length}
 use Prim.Native.Nat.{_≤_, _-_}
 use borrow.Author.Needs.{needs}
+use lib.ListN.{length}
 use Rattle.show_set.proofs.weights.Statement.{statement}
 use Rattle.show_set.proofs.weights.Tie as tie
 
 abbrev Inv-loop : tie.InvT-loop
-Inv-loop part i₀ t3 i = i ≤ length part
+Inv-loop part i₀ i = i ≤ length part
 
 abbrev μ-loop : tie.MeasureT-loop
-μ-loop part i₀ t3 i = length part - i
+μ-loop part i₀ i = length part - i
 
 loop-holds : tie.Need-loop-holds Inv-loop μ-loop
 loop-holds c = search needs
 
-slice-aggregate-text : tie.Need-slice-aggregate-text Inv-loop μ-loop
-slice-aggregate-text c = search needs
+mul-item : tie.Need-mul-item Inv-loop μ-loop
+mul-item c = search needs
 
-text-requires : tie.Need-text-requires Inv-loop μ-loop
-text-requires c κs = search needs
+shared-slice-read-item : tie.Need-shared-slice-read-item Inv-loop μ-loop
+shared-slice-read-item c = search needs
 
-mul-weight : tie.Need-mul-weight Inv-loop μ-loop
-mul-weight c = search needs
-
-shared-slice-read-weight : tie.Need-shared-slice-read-weight Inv-loop μ-loop
-shared-slice-read-weight c = search needs
-
-weight-requires : tie.Need-weight-requires Inv-loop μ-loop
-weight-requires c κs = search needs
+item-requires : tie.Need-item-requires Inv-loop μ-loop
+item-requires c κs = search needs
 
 add-i : tie.Need-add-i Inv-loop μ-loop
 add-i c = search needs
@@ -48,11 +42,9 @@ weights-spec =
     Inv-loop
     μ-loop
     loop-holds
-    slice-aggregate-text
-    text-requires
-    mul-weight
-    shared-slice-read-weight
-    weight-requires
+    mul-item
+    shared-slice-read-item
+    item-requires
     add-i
     loop-less
     loop-again

@@ -1,40 +1,25 @@
--- `cases::set_apart` is safe and ends. Assumes nothing.
-use mathlib.Core.Path.{_≡_}
-use Prim.Native.Nat.{_-_, _≤_}
+-- `kind_cases::cases::set_apart` is safe and ends. Assumes nothing.
+use Prim.Native.Nat.{_-_}
 use borrow.Author.Needs.{needs}
 use lib.ListN.{length}
+use mathlib.Core.Path.{_≡_}
 use Rattle.kind_cases.proofs.cases.set_apart.Statement.{statement}
 use Rattle.kind_cases.proofs.cases.set_apart.Tie as tie
 
 abbrev Inv-loop : tie.InvT-loop
-Inv-loop samples₀ text k n at₀ i₀ samples at i = (i ≤ n) × (length samples ≡ length samples₀)
+Inv-loop samples₀ apart n j₀ samples j = length samples ≡ length samples₀
 
 abbrev μ-loop : tie.MeasureT-loop
-μ-loop samples₀ text k n at₀ i₀ samples at i = n - i
+μ-loop samples₀ apart n j₀ samples j = n - j
 
 loop-holds : tie.Need-loop-holds Inv-loop μ-loop
 loop-holds c = search needs
 
-size-requires : tie.Need-size-requires Inv-loop μ-loop
-size-requires c κs = search needs
+set-one-requires : tie.Need-set-one-requires Inv-loop μ-loop
+set-one-requires c κs = search needs
 
-sum-requires : tie.Need-sum-requires Inv-loop μ-loop
-sum-requires c κs = search needs
-
-word-requires : tie.Need-word-requires Inv-loop μ-loop
-word-requires c κs = search needs
-
-signed-requires : tie.Need-signed-requires Inv-loop μ-loop
-signed-requires c κs = search needs
-
-store-requires : tie.Need-store-requires Inv-loop μ-loop
-store-requires c κs = search needs
-
-sum-requires-2 : tie.Need-sum-requires-2 Inv-loop μ-loop
-sum-requires-2 c κs = search needs
-
-add-i : tie.Need-add-i Inv-loop μ-loop
-add-i c = search needs
+add-j : tie.Need-add-j Inv-loop μ-loop
+add-j c = search needs
 
 loop-less : tie.Need-loop-less Inv-loop μ-loop
 loop-less c = search needs
@@ -55,13 +40,8 @@ set-apart-spec =
     Inv-loop
     μ-loop
     loop-holds
-    size-requires
-    sum-requires
-    word-requires
-    signed-requires
-    store-requires
-    sum-requires-2
-    add-i
+    set-one-requires
+    add-j
     loop-less
     loop-again
     same-length
