@@ -10,7 +10,7 @@ mod three;
 mod weigh;
 mod whole;
 
-pub use freq::freq_weight;
+pub use freq::freq_weights;
 pub use list::mult;
 pub use list::sound_bands;
 pub use own_power::power;

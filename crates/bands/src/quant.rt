@@ -119,7 +119,7 @@ fn clear(s: &mut [f32])
 }
 
 // The bands of the three channels, 16 places each.
-fn all_bands(numbers: &[f32], count: usize) -> [f32; 48]
+pub(crate) fn all_bands(numbers: &[f32], count: usize) -> [f32; 48]
     requires { ⌜ (1 ≤ count) × (count ≤ 16) × (length (now numbers) ≡ 3 * count) ⌝ }
     ensures { λ r. ⌜ Channels (now (numbers .entry)) count 3 r ⌝ }
 {

@@ -2,15 +2,15 @@
 use mathlib.Core.Bool.{true}
 use mathlib.Core.Path.{_≡_}
 use mathlib.Core.List.{List, map}
-use Prim.Native.Nat.{ℕ, _*_, _/_, _%_, _≤_, _<_}
+use Prim.Native.Nat.{ℕ, _+_, _*_, _/_, _%_, _≤_, _<_}
 use lib.Ieee.{Float, binary32, div}
 use Rattle.transform.specs.Kinds.{widthOf, heightOf, areaOf, placesOf}
 use Rattle.bands.specs.Bands.{one}
 use Rattle.bands.specs.Table.{tab}
 use Rattle.bands.specs.Quant.{gridded, soundOf, dctTable}
 use Rattle.matrix.specs.declared.numbers.Numbers.{Numbers}
-use Rattle.matrix.specs.Numbers.{listOf, count}
-use Rattle.matrix.specs.Weight.{rule}
+use Rattle.matrix.specs.Numbers.{numberOf, listOf, count}
+use Rattle.matrix.specs.Weight.{corner, rule}
 
 -- no list has more than 16 bands a channel
 pub record Few (n : Numbers) : Type 0 where
@@ -32,6 +32,15 @@ pub record Grid (n : Numbers) (l w h size : ℕ) : Type 0 where
 unfoldable pub gridsOf : Numbers → ℕ → ℕ → ℕ → List Float
 unfolding listOf dctTable
 gridsOf n l w h = dctTable (listOf n l) (count n l) w h
+
+-- mode 5's p5 to p8 of three channels
+abbrev pub cornerNumbers : Numbers → List Float
+cornerNumbers n = tab 12 (λ j. numberOf n (j / 4) (5 + j % 4))
+
+-- mode 5's corners of three channels, 16 each
+unfoldable pub cornersOf : Numbers → List Float
+unfolding corner numberOf
+cornersOf n = tab 48 (λ p. corner (numberOf n (p / 16)) (p % 16))
 
 -- what stands at all places of a kind before 1 / w
 unfoldable pub rulesOf : Numbers → ℕ → List Float
@@ -59,8 +68,9 @@ pub record Ready (n : Numbers) (k : ℕ) : Type 0 where
   pub sound0 : AllSound n 0
   pub sound1 : AllSound n 1
 
--- the small grids of modes 3 to 5
-pub record Grids (n : Numbers) (a b : List Float) : Type 0 where
+-- the small grids of modes 3 to 5, and mode 5's corners
+pub record Grids (n : Numbers) (a b c : List Float) : Type 0 where
   pub eight : 4 ≤ n .mode → n .mode ≤ 5 → a ≡ gridsOf n 0 8 4
   pub four : n .mode ≡ 3 → b ≡ gridsOf n 0 4 4
   pub second : n .mode ≡ 5 → b ≡ gridsOf n 1 4 4
+  pub corners : n .mode ≡ 5 → c ≡ cornersOf n
