@@ -82,11 +82,12 @@ def freqs(text):
     p, table = floats(text), floats(FREQS)
     reach = f32(f32(table[15] - table[2]) + f32(Fraction(1, 1000000)))
     out = []
-    for k in range(17):
-        if len(p) != 4 or k in (0, 1, 4, 5, 16):
-            out.append(NAN)
-        else:
-            out.append(bits(between(bands_of(p), f32(f32(f32(table[k] - table[2]) * 3) / reach))))
+    for c in range(3):
+        for k in range(16):
+            if len(p) != 12 or k in (0, 1, 4, 5):
+                out.append(NAN)
+            else:
+                out.append(bits(between(bands_of(p[c * 4:c * 4 + 4]), f32(f32(f32(table[k] - table[2]) * 3) / reach))))
     print("freqs", *out)
 
 
@@ -101,8 +102,10 @@ def main():
     call("1.5 2.5 3.5", 1, 4, 4, 48)
     call("1 1 0 1 1 1", 2, 4, 4, 48)
     call("1 1 2 3 1 3 1 1 3", 3, 16, 8, 384)
-    for p in ["414 0 0 0", "22 -0.25 -0.25 -0.25", "-22 3.25 -0.75 65504", "0 3.25 -0.75 65504", "1 3.25 -0.75"]:
-        freqs(p)
+    freqs("414 0 0 0 22 -0.25 -0.25 -0.25 -22 3.25 -0.75 65504")
+    freqs("0 3.25 -0.75 65504 58 0 0 0 1 1 2 3")
+    freqs("1 3.25 -0.75")
+    freqs("1 1 1 1 1 1 1 1 1 1 1 1 1")
 
 
 if __name__ == "__main__":

@@ -11,6 +11,8 @@ use Rattle.bands.specs.Root.{wholeRoot}
 use Rattle.bands.specs.Power.{chain, field, scaled, normal, turns, products}
 use Rattle.bands.specs.Bands.{atOf, bandAt}
 use Rattle.bands.specs.Position.{indexOf, fractionOf}
+use Rattle.bands.specs.Weights.{between}
+use Rattle.bands.specs.Freqs.{freqPosition, interpolated}
 use Rattle.bands.specs.declared.quant.Banded.{Banded}
 use Rattle.bands.specs.declared.quant.Banded.the-variants.{Done, Lent, Band}
 use Rattle.bands.specs.declared.spot.Segment.{Segment}
@@ -126,6 +128,10 @@ pub record Steps (f : Float) (n : ℕ) : Type 0 where
 pub record Stepped (f : Float) : Type 0 where
   pub n : ℕ
   pub steps : Steps f n
+
+-- mode 5's number at k of channel c, by the bands; a NaN where k has none
+abbrev pub cornerBy : List Float → ℕ → ℕ → Float
+cornerBy bs c k = cond (interpolated k) (between (bandIn bs c) (freqPosition k)) nan
 
 -- ---- answers: DONE or not
 abbrev pub isDone : Banded → Bool

@@ -1,15 +1,13 @@
-// Mode 5's interpolated numbers.
-use crate::list::lay_bands;
-use crate::spot::cut_at;
-use crate::spot::index;
-use crate::weigh::interpolate;
+// Mode 5's interpolated numbers, of three channels at once: each ratio of bands has its chain worked out once.
+use crate::grid::put;
+use crate::quant::all_bands;
+use crate::three::Weights;
+use crate::three::chains;
+use crate::weigh::weigh_three;
 ghost use mathlib.Core.Path.{_≡_};
 ghost use Prim.Native.Nat.{_<_};
-ghost use lib.ListN.{length};
-ghost use Rattle.bands.specs.Bands.{atOf, bandAt};
-ghost use Rattle.bands.specs.Position.{Cut};
-ghost use Rattle.bands.specs.Weights.{between};
-ghost use Rattle.bands.specs.Freqs.{freqPosition, interpolated, freqWeight};
+ghost use Rattle.bands.specs.Freqs.{freqPosition, interpolated, freqTable};
+ghost use Rattle.bands.specs.Views.{Held, cornerBy};
 
 const FREQS: [f32; 16] = [
     0.0,
@@ -37,17 +35,6 @@ fn freq_position(k: usize) -> f32
     (FREQS[k] - FREQS[2]) * 3.0 / (FREQS[15] - FREQS[2] + 0.000001)
 }
 
-// The four numbers as bands, at the position of k.
-fn corner_between(numbers: &[f32], k: usize) -> f32
-    requires { ⌜ (length (now numbers) ≡ 4) × (k < 16) × Cut 4 (freqPosition k) ⌝ }
-    ensures { λ r. ⌜ r ≡ between (bandAt (atOf (now (numbers .entry)))) (freqPosition k) ⌝ }
-{
-    let mut bands = [0.0f32; 48];
-    lay_bands(&mut bands, 0, numbers);
-    let p = freq_position(k);
-    interpolate(cut_at(&bands, 0, index(p, 4), p))
-}
-
 // Whether k has an interpolated number.
 fn has_number(k: usize) -> bool
     ensures { λ r. ⌜ r ≡ interpolated k ⌝ }
@@ -64,15 +51,36 @@ fn has_number(k: usize) -> bool
     k < 16
 }
 
-// The number at k by p5 to p8.
-pub fn freq_weight(numbers: &[f32], k: usize) -> f32
-    ensures { λ r. ⌜ r ≡ freqWeight (now (numbers .entry)) k ⌝ }
+// The numbers at k of three channels, by four bands each; NaNs where k has none.
+fn numbers_at(bands: &[f32; 48], t: &[u64; 1632], k: usize) -> Weights
+    requires { ⌜ (k < 16) × Held (now bands) 4 (now t) ⌝ }
+    ensures { λ w. ⌜ (w .a ≡ cornerBy (now (bands .entry)) 0 k) × (w .b ≡ cornerBy (now (bands .entry)) 1 k) × (w .c ≡ cornerBy (now (bands .entry)) 2 k) ⌝ }
 {
-    if numbers.len() != 4 {
-        return 0.0 / 0.0;
-    }
     if has_number(k) {
-        return corner_between(numbers, k);
+        return weigh_three(bands, t, 4, freq_position(k));
     }
-    0.0 / 0.0
+    Weights {
+        a: 0.0 / 0.0,
+        b: 0.0 / 0.0,
+        c: 0.0 / 0.0,
+    }
+}
+
+// The numbers at all k: numbers are p5 to p8 of three channels.
+pub fn freq_weights(numbers: &[f32]) -> [f32; 48]
+    ensures { λ r. ⌜ r ≡ freqTable (now (numbers .entry)) ⌝ }
+{
+    let mut all = [0.0f32 / 0.0; 48];
+    if numbers.len() != 12 {
+        return all;
+    }
+    let bands = all_bands(numbers, 4);
+    let t = chains(&bands, 4);
+    let mut k: usize = 0;
+    while k < 16 {
+        let v = numbers_at(&bands, &t, k);
+        put(&mut all, 16, k, v.a, v.b, v.c);
+        k += 1;
+    }
+    all
 }

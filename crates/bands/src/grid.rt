@@ -25,7 +25,7 @@ fn positions(from: u16, y: u16, w: u16, h: u16, count: u16) -> [f32; 256]
 }
 
 // Place q of three channels.
-fn put(out: &mut [f32], area: usize, q: usize, v0: f32, v1: f32, v2: f32)
+pub(crate) fn put(out: &mut [f32], area: usize, q: usize, v0: f32, v1: f32, v2: f32)
     requires { ⌜ (q < area) × (length (now out) ≡ 3 * area) × (area ≤ 65536) ⌝ }
     ensures { λ r. ⌜ now (out .exit) ≡ putOf (now (out .entry)) area q v0 v1 v2 ⌝ }
 {

@@ -1,5 +1,4 @@
-// The weight in a segment: a * P(b / a, f), of one channel and of three.
-use crate::own_power::power;
+// The weights in the segments of three channels: a * P(b / a, f).
 use crate::spot::Segment;
 use crate::spot::cut_at;
 use crate::spot::index;
@@ -18,15 +17,6 @@ fn steps(f: f32) -> u32
     ensures { λ r. ⌜ r ≡ stepsOf f ⌝ }
 {
     std::num::truncating_f32_to_u64(f * 4294967296.0) as u32
-}
-
-// The weight in one segment.
-pub(crate) fn interpolate(s: Segment) -> f32
-    requires { ⌜ Stepped (s .fraction) ⌝ }
-    ensures { λ w. ⌜ w ≡ segmentWeight (s .a) (s .b) (s .fraction) ⌝ }
-{
-    let a = s.a;
-    a * power(s.b / a, steps(s.fraction))
 }
 
 // The weights in the segments of three channels at one position: one fraction, so one n. What P needs of their

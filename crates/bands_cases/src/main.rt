@@ -62,12 +62,13 @@ fn call(numbers: &[f32], count: usize, w: usize, h: usize, out: &mut [f32]) {
     weights(out);
 }
 
-// Mode 5's numbers at every k, and at one past them.
+// Mode 5's numbers of three channels at every k.
 fn freqs(p: &[f32]) {
     io::write_all(1, b"freqs");
+    let all = bands::freq_weights(p);
     let mut k: usize = 0;
-    while k < 17 {
-        word(bits(bands::freq_weight(p, k)));
+    while k < 48 {
+        word(bits(all[k]));
         k += 1;
     }
     end_line();
@@ -122,18 +123,56 @@ fn lists() {
     call(&grows, 3, 16, 8, &mut o3);
 }
 
-// A default, falling bands, p5 below zero, p5 zero, and three numbers only.
+// A default, falling bands and p5 below zero; p5 zero in the first channel; three numbers of one channel only, and one number too many.
 fn corners() {
-    let plain = [414.0f32, 0.0, 0.0, 0.0];
-    freqs(&plain);
-    let falls = [22.0f32, -0.25, -0.25, -0.25];
-    freqs(&falls);
-    let minus = [-22.0f32, 3.25, -0.75, 65504.0];
-    freqs(&minus);
-    let zero = [0.0f32, 3.25, -0.75, 65504.0];
+    let kinds = [
+        414.0f32,
+        0.0,
+        0.0,
+        0.0,
+        22.0,
+        -0.25,
+        -0.25,
+        -0.25,
+        -22.0,
+        3.25,
+        -0.75,
+        65504.0,
+    ];
+    freqs(&kinds);
+    let zero = [
+        0.0f32,
+        3.25,
+        -0.75,
+        65504.0,
+        58.0,
+        0.0,
+        0.0,
+        0.0,
+        1.0,
+        1.0,
+        2.0,
+        3.0,
+    ];
     freqs(&zero);
     let short = [1.0f32, 3.25, -0.75];
     freqs(&short);
+    let long = [
+        1.0f32,
+        1.0,
+        1.0,
+        1.0,
+        1.0,
+        1.0,
+        1.0,
+        1.0,
+        1.0,
+        1.0,
+        1.0,
+        1.0,
+        1.0,
+    ];
+    freqs(&long);
 }
 
 fn main() {

@@ -5,10 +5,10 @@ use Rattle.bands_cases.proofs.freqs.Statement.{statement}
 use Rattle.bands_cases.proofs.freqs.Tie as tie
 
 abbrev Inv-loop : tie.InvT-loop
-Inv-loop p k₀ k = k ≤ 17
+Inv-loop p all k₀ k = k ≤ 48
 
 abbrev μ-loop : tie.MeasureT-loop
-μ-loop p k₀ k = 17 - k
+μ-loop p all k₀ k = 48 - k
 
 slice-aggregate-write-all : tie.Need-slice-aggregate-write-all Inv-loop μ-loop
 slice-aggregate-write-all c = search needs
@@ -16,11 +16,17 @@ slice-aggregate-write-all c = search needs
 write-all-requires : tie.Need-write-all-requires Inv-loop μ-loop
 write-all-requires c κs = search needs
 
+freq-weights-requires : tie.Need-freq-weights-requires Inv-loop μ-loop
+freq-weights-requires c κs = search needs
+
 loop-holds : tie.Need-loop-holds Inv-loop μ-loop
 loop-holds c = search needs
 
-freq-weight-requires : tie.Need-freq-weight-requires Inv-loop μ-loop
-freq-weight-requires c κs = search needs
+mul-bits : tie.Need-mul-bits Inv-loop μ-loop
+mul-bits c = search needs
+
+array-read-bits : tie.Need-array-read-bits Inv-loop μ-loop
+array-read-bits c = search needs
 
 bits-requires : tie.Need-bits-requires Inv-loop μ-loop
 bits-requires c κs = search needs
@@ -51,8 +57,10 @@ freqs-spec =
     μ-loop
     slice-aggregate-write-all
     write-all-requires
+    freq-weights-requires
     loop-holds
-    freq-weight-requires
+    mul-bits
+    array-read-bits
     bits-requires
     word-requires
     add-k

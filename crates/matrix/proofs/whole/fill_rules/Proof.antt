@@ -15,12 +15,17 @@ eight-of-requires c κs = search needs
 four-of-requires : tie.Need-four-of-requires
 four-of-requires c κs = search needs
 
+corners-of-requires : tie.Need-corners-of-requires
+corners-of-requires c κs = search needs
+
 fill-small-requires : tie.Need-fill-small-requires
 fill-small-requires c κs =
-    let a = c .before .before .before .before .before .before .before .before .args in
-    let r = c .before .before .before .before .before .before .before .before .pre .0 in
-    let m : a .n .mode < 6 = c .before .before .before .before .before .if1 .taken in
-    (r, m, record { eight = c .before .before .before .before .eight-of .ensures; four = c .before .before .before .four-of .ensures .0; second = c .before .before .before .four-of .ensures .1 }, c .before .before .before .before .before .before .before .before .pre .1 ∙ small-places (a .kind) (r .shaped .wide (omega arith)) (r .shaped .high (omega arith)))
+    let v = c .before .before .before .before in
+    let w = v .before .before .before .before .before .before in
+    let a = w .args in
+    let r = w .pre .0 in
+    let m : a .n .mode < 6 = v .before .before .before .if1 .taken in
+    (r, m, record { eight = v .before .before .eight-of .ensures; four = v .before .four-of .ensures .0; second = v .before .four-of .ensures .1; corners = v .corners-of .ensures }, w .pre .1 ∙ small-places (a .kind) (r .shaped .wide (omega arith)) (r .shaped .high (omega arith)))
 
 width-requires : tie.Need-width-requires
 width-requires c κs = search needs
@@ -58,6 +63,7 @@ fill-rules-spec =
     (tie.spec
     eight-of-requires
     four-of-requires
+    corners-of-requires
     fill-small-requires
     width-requires
     height-requires
