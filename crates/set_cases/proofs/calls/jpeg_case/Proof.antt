@@ -2,7 +2,7 @@
 use borrow.Author.Needs.{needs}
 use lib.IntN.{ℤ, pos}
 use lib.ListN.{length-replicate}
-use mathlib.Core.Path.{sym}
+use mathlib.Core.Path.{sym, _∙_}
 use Rattle.set_cases.proofs.calls.jpeg_case.Statement.{statement}
 use Rattle.set_cases.proofs.calls.jpeg_case.Tie as tie
 
@@ -22,7 +22,7 @@ row-part-requires : tie.Need-row-part-requires
 row-part-requires c κs = search needs
 
 slice-aggregate-sample-part : tie.Need-slice-aggregate-sample-part
-slice-aggregate-sample-part c = search needs
+slice-aggregate-sample-part c = sym (c .before .before .before .before .fill .kept .0 ∙ length-replicate {0} {A = ℤ} 394752 (pos 0))
 
 sample-part-requires : tie.Need-sample-part-requires
 sample-part-requires c κs = search needs
