@@ -1,9 +1,16 @@
 // What programs that replay cases take from their input: numbers, parts, and the rows and samples that a case names. Where the input
 // is too short a number is 0 and a part is empty, so nothing here asks for anything: each function is proved safe and ending.
+mod cases;
 mod parts;
 mod rows;
 mod samples;
 
+pub use cases::field;
+pub use cases::field_bits;
+pub use cases::listed;
+pub use cases::named;
+pub use cases::start;
+pub use cases::words;
 pub use parts::bytes;
 pub use parts::first;
 pub use parts::first_i32;

@@ -1,9 +1,9 @@
--- `set_cases::all_of` is safe and ends. Assumes nothing.
-use lib.ListN.{length}
-use Prim.Native.Nat.{_≤_, _<_, _+_, _-_}
+-- `set_cases::shown::all_of` is safe and ends. Assumes nothing.
+use Prim.Native.Nat.{_≤_, _-_}
 use borrow.Author.Needs.{needs}
-use Rattle.set_cases.proofs.all_of.Statement.{statement}
-use Rattle.set_cases.proofs.all_of.Tie as tie
+use lib.ListN.{length}
+use Rattle.set_cases.proofs.shown.all_of.Statement.{statement}
+use Rattle.set_cases.proofs.shown.all_of.Tie as tie
 
 abbrev Inv-loop : tie.InvT-loop
 Inv-loop part bits i₀ i = i ≤ length part

@@ -1,22 +1,25 @@
--- `set_cases::count_up` is safe and ends. Assumes nothing.
-use mathlib.Core.Path.{_≡_}
-use lib.ListN.{length}
-use Prim.Native.Nat.{_≤_, _<_, _+_, _-_}
+-- `set_cases::calls::count_up` is safe and ends. Assumes nothing.
+use Prim.Native.Nat.{_≤_, _-_}
 use borrow.Author.Needs.{needs}
-use Rattle.set_cases.proofs.count_up.Statement.{statement}
-use Rattle.set_cases.proofs.count_up.Tie as tie
+use lib.ListN.{length}
+use mathlib.Core.Path.{_≡_}
+use Rattle.set_cases.proofs.calls.count_up.Statement.{statement}
+use Rattle.set_cases.proofs.calls.count_up.Tie as tie
 
 abbrev Inv-loop : tie.InvT-loop
-Inv-loop part₀ from n i₀ x₀ part i x = (length part ≡ length part₀) × (i ≤ n)
+Inv-loop part₀ from i₀ x₀ part i x = (i ≤ length part₀) × (length part ≡ length part₀)
 
 abbrev μ-loop : tie.MeasureT-loop
-μ-loop part₀ from n i₀ x₀ part i x = n - i
+μ-loop part₀ from i₀ x₀ part i x = length part₀ - i
 
 loop-holds : tie.Need-loop-holds Inv-loop μ-loop
 loop-holds c = search needs
 
-put-weight-requires : tie.Need-put-weight-requires Inv-loop μ-loop
-put-weight-requires c κs = search needs
+mul-part : tie.Need-mul-part Inv-loop μ-loop
+mul-part c = search needs
+
+slice-write-part : tie.Need-slice-write-part Inv-loop μ-loop
+slice-write-part c = search needs
 
 add-i : tie.Need-add-i Inv-loop μ-loop
 add-i c = search needs
@@ -40,7 +43,8 @@ count-up-spec =
     Inv-loop
     μ-loop
     loop-holds
-    put-weight-requires
+    mul-part
+    slice-write-part
     add-i
     loop-less
     loop-again

@@ -1,0 +1,112 @@
+// What is written of each call.
+use dequant::Jpeg;
+use matrix::Expanded;
+
+pub(crate) fn show_reply(r: Expanded) {
+    show::text(b"reply=");
+    show_set::reply(r);
+    show::end();
+}
+
+// Whether each weight has these bits.
+fn all_of(part: &[f32], bits: u64) -> bool {
+    let mut i = 0;
+    while i < part.len() {
+        if show_set::bits(part[i]) != bits {
+            return false;
+        }
+        i += 1;
+    }
+    true
+}
+
+fn show_place(part: &[f32], place: usize) {
+    show::comma();
+    show::decimal(place as u64);
+    show::text(b":");
+    show_set::weight_at(part, place);
+}
+
+fn show_places(part: &[f32], places: &[u8]) {
+    let n = places.len() / 4;
+    let mut i = 0;
+    while i < n {
+        show_place(part, input::size(places, i));
+        i += 1;
+    }
+}
+
+// The total, and the weights at the places.
+fn show_weights(part: &[f32], places: &[u8]) {
+    show::decimal(show_set::total(part));
+    show_places(part, places);
+    show::end();
+}
+
+// An arena: unchanged, zero, or its weights.
+fn show_arena(part: &[f32], places: &[u8]) {
+    if all_of(part, 0xdeadbeef) {
+        show::text(b"unchanged\n");
+        return;
+    }
+    if all_of(part, 0) {
+        show::text(b"zero\n");
+        return;
+    }
+    show_weights(part, places);
+}
+
+pub(crate) fn show_arenas(places: &[u8], straight: &[f32], transposed: &[f32]) {
+    show::text(b"straight=");
+    show_arena(straight, places);
+    show::text(b"transposed=");
+    show_arena(transposed, places);
+}
+
+// The first weight, the last, and the total.
+fn show_ends(part: &[f32], last: usize) {
+    show::blank();
+    show_set::weight_at(part, 0);
+    show::blank();
+    show_set::weight_at(part, last);
+    show::next(show_set::total(part));
+}
+
+// The length of a part, and its ends where it has some.
+pub(crate) fn show_part(part: &[f32]) {
+    let n = part.len();
+    show::text(b"part=");
+    show::decimal(n as u64);
+    if n > 0 {
+        show_ends(part, n - 1);
+    }
+    show::end();
+}
+
+// Values as weights: whole numbers that an f32 has.
+fn show_values(part: &[i32]) {
+    let mut i = 0;
+    while i < part.len() {
+        show_set::item(i, std::num::nearest_i32_to_f32(part[i]));
+        i += 1;
+    }
+}
+
+fn jpeg_number(r: Jpeg) -> u64 {
+    match r {
+        Jpeg::Done => 0,
+        Jpeg::Lent => 1,
+        Jpeg::Row { kind: _ } => 6,
+        Jpeg::None => 11,
+    }
+}
+
+pub(crate) fn show_jpeg(rows: &[u16], samples: &[i32], channel: usize) {
+    show::line(
+        b"reply=",
+        jpeg_number(dequant::jpeg_reply(rows, samples, channel)),
+    );
+    show::text(b"part=");
+    show_values(dequant::jpeg_quant_values(rows, samples, channel));
+    show::end();
+}
