@@ -28,7 +28,7 @@ use Rattle.bands.specs.Freqs.{interpolated as interpolates}
 use Rattle.bands.proofs.Freqs.{freq-cut, on-small, weight-is}
 use Rattle.bands.proofs.Asserts.{place-cut}
 use Rattle.bands.proofs.LentLaws.{grid-sides}
-use Rattle.bands.proofs.Marks.{steps-is}
+use Rattle.promises.proofs.Steps.{steps-is}
 use Rattle.bands.proofs.Accuracy.{accurate}
 use Rattle.bands.proofs.MultRange.{mult-banded, moderate}
 use Rattle.bands.proofs.Sound.{opened, first-band}
