@@ -36,21 +36,20 @@ fn sample_part<'a>(samples: &'a [i32], s: &[u8], at: usize) -> &'a [i32] {
     input::first_i32(samples, field(s, at, 3))
 }
 
-fn expand(s: &[u8], at: usize, straight: &mut [f32], transposed: &mut [f32]) -> Expanded {
+fn expand(
+    s: &[u8],
+    at: usize,
+    samples: &[i32],
+    straight: &mut [f32],
+    transposed: &mut [f32],
+) -> Expanded {
     let rows = rows_of(s, at);
-    let mut samples = [0i32; 394752];
-    fill(&mut samples, s, at);
-    dequant::expand(
-        row_part(&rows, s, at),
-        sample_part(&samples, s, at),
-        straight,
-        transposed,
-    )
+    dequant::expand(row_part(&rows, s, at), samples, straight, transposed)
 }
 
 // Expands into arenas of the case's lengths, and shows the reply and both.
-fn expand_case(s: &[u8], at: usize, straight: &mut [f32], transposed: &mut [f32]) {
-    show_reply(expand(s, at, straight, transposed));
+fn expand_case(s: &[u8], at: usize, samples: &[i32], straight: &mut [f32], transposed: &mut [f32]) {
+    show_reply(expand(s, at, samples, straight, transposed));
     show_arenas(input::listed(s, at, 11), straight, transposed);
 }
 
@@ -92,42 +91,47 @@ fn lookup_case(s: &[u8], at: usize, straight: &mut [f32], transposed: &mut [f32]
     lookup(s, at, straight, transposed);
 }
 
-fn cut_call(s: &[u8], at: usize, straight: &mut [f32], transposed: &mut [f32]) {
+fn cut_call(s: &[u8], at: usize, samples: &[i32], straight: &mut [f32], transposed: &mut [f32]) {
     if field(s, at, 2) == 0 {
-        expand_case(s, at, straight, transposed);
+        expand_case(s, at, samples, straight, transposed);
     } else {
         lookup_case(s, at, straight, transposed);
     }
 }
 
 // With two arenas of the case's lengths, whose weights have the bits deadbeef.
-fn with_arenas(s: &[u8], at: usize) {
+fn with_arenas(s: &[u8], at: usize, samples: &[i32]) {
     let mut straight = [-6259853398707798016.0f32; 394752];
     let mut transposed = [-6259853398707798016.0f32; 394752];
     cut_call(
         s,
         at,
+        samples,
         input::first_mut_f32(&mut straight, field(s, at, 16)),
         input::first_mut_f32(&mut transposed, field(s, at, 17)),
     );
 }
 
-fn jpeg_case(s: &[u8], at: usize) {
+fn jpeg_case(s: &[u8], at: usize, samples: &[i32]) {
     let rows = rows_of(s, at);
-    let mut samples = [0i32; 394752];
-    fill(&mut samples, s, at);
-    show_jpeg(
-        row_part(&rows, s, at),
-        sample_part(&samples, s, at),
-        field(s, at, 9),
-    );
+    show_jpeg(row_part(&rows, s, at), samples, field(s, at, 9));
 }
 
-// The call that a case names.
-pub(crate) fn call(s: &[u8], at: usize) {
+fn lent_call(s: &[u8], at: usize, samples: &[i32]) {
     if field(s, at, 2) == 2 {
-        jpeg_case(s, at);
+        jpeg_case(s, at, samples);
     } else {
-        with_arenas(s, at);
+        with_arenas(s, at, samples);
     }
+}
+
+fn filled_call(s: &[u8], at: usize, samples: &mut [i32]) {
+    fill(samples, s, at);
+    lent_call(s, at, sample_part(samples, s, at));
+}
+
+// The call that a case names. The samples are lent once: a need after a second loan would count them.
+pub(crate) fn call(s: &[u8], at: usize) {
+    let mut samples = [0i32; 394752];
+    filled_call(s, at, &mut samples);
 }
