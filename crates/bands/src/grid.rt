@@ -1,4 +1,5 @@
 // The weights of three channels' bands over a grid.
+use crate::own_power::top_chain;
 use crate::spot::distance;
 use crate::spot::position;
 use crate::three::chains;
@@ -77,9 +78,10 @@ fn weigh_row(
     let width = w as usize;
     let area = width * (h as usize);
     let row = (y as usize) * width;
+    let top = top_chain();
     let mut x = from as usize;
     while x < width {
-        let v = weigh_three(bands, t, count, s[x]);
+        let v = weigh_three(bands, t, &top, count, s[x]);
         put(out, area, row + x, v.a, v.b, v.c);
         x += 1;
     }
