@@ -59,7 +59,8 @@ fn copied(out: &mut [f32], y: u16, w: u16, h: u16) -> u16
     y
 }
 
-// Row y from column `from` on, at the positions s; all that comes before lies there.
+// Row y from column `from` on, at the positions s; all that comes before lies there. The chain from 2^32 is made
+// here, once a row, and lent to each weight.
 fn weigh_row(
     out: &mut [f32],
     s: &[f32; 256],

@@ -30,7 +30,7 @@ pub(crate) fn interpolate(s: Segment) -> f32
 }
 
 // The weights in the segments of three channels at one position: one fraction, so one n. What P needs of their
-// ratios is lent beside them: it lies in t, from `at` on for the first channel.
+// ratios is lent beside them: it lies in t, from `at` on for the first channel. top is the chain from 2^32.
 fn interpolate_three(
     s0: Segment,
     s1: Segment,
