@@ -4,15 +4,16 @@ use mathlib.Core.Logic.{⊎-elim}
 use mathlib.Core.Bool.{Bool, true, false, cond, not, _&&_, _||_, false≢true}
 use mathlib.Core.List.{List}
 use Prim.Native.Nat.{ℕ, zero, suc, _+_, _-_, _≤_, _<_}
-use native.Mathlib.Nat.{le-of-suc-le-suc, not-suc-le-zero, eq-or-lt-of-le, le-refl, le-trans, lt-of-lt-of-le, add-zero}
+use native.Mathlib.Nat.{le-of-suc-le-suc, not-suc-le-zero, eq-or-lt-of-le, le-refl, le-of-eq, lt-of-lt-of-le, add-zero}
 use native.Mathlib.Numerals.{add-one}
 use native.Mathlib.Omega.{arith}
-use borrow.Author.Tests.{eq-eqb, ne-eqb, eqb-true}
+use borrow.Author.Tests.{ne-eqb}
 use lib.Dec.{eqb}
 use lib.ListN.{length, getD, set, length-set}
 use lib.Seq.{getD-set-same, getD-set-other}
 use lib.Ieee.{Float, nan, binary32, mul}
-use Rattle.bands.specs.Bands.{multOf, bandAt, barred, sound}
+use Rattle.transform.proofs.FirstLaws.{before-none, before-le, before-more, before-stop, before-every, before-each}
+use Rattle.bands.specs.Bands.{multOf, bandAt, barred, kept, sound}
 use Rattle.bands.specs.Views.{Banding}
 
 -- the first i of n bands are sound, and `last` is the last of them
@@ -37,47 +38,34 @@ same-last i = omega arith
 same-end : (n i : ℕ) → n ≤ i → i ≤ n → i ≡ n
 same-end n i h g = omega arith
 
+or-true : (b : Bool) → (b || true) ≡ true
+or-true true = refl
+or-true false = refl
+
 module _ (ps : ℕ → Float) where
-  sound-step : (i : ℕ) (b : Bool) → sound ps i ≡ i → (eqb i 0 || not (barred (bandAt ps i))) ≡ b → sound ps (suc i) ≡ cond b (suc i) i
+  sound-on : (i : ℕ) → sound ps i ≡ i → barred (bandAt ps i) ≡ false → sound ps (i + 1) ≡ i + 1
   unfolding sound
-  sound-step i b e f =
-      ap (λ (t : Bool). cond (t && (eqb i 0 || not (barred (bandAt ps i)))) (suc i) (sound ps i)) (eq-eqb (sound ps i) i e)
-      ∙ ap (λ (t : Bool). cond t (suc i) (sound ps i)) f
-      ∙ ap (λ (k : ℕ). cond b (suc i) k) e
+  sound-on i e f = before-more (kept ps) i e (ap (λ (t : Bool). eqb i 0 || not t) f ∙ or-true (eqb i 0))
 
-  sound-one : sound ps 1 ≡ 1
+  sound-off : (i n : ℕ) → 1 ≤ i → sound ps i ≡ i → barred (bandAt ps i) ≡ true → i < n → sound ps n ≡ i
   unfolding sound
-  sound-one = refl
-
-  sound-on : (i : ℕ) → sound ps i ≡ i → barred (bandAt ps i) ≡ false → sound ps (suc i) ≡ suc i
-  sound-on i e f = sound-step i true e (ap (λ (t : Bool). eqb i 0 || not t) f ∙ or-true (eqb i 0))
-    where
-      or-true : (b : Bool) → (b || true) ≡ true
-      or-true true = refl
-      or-true false = refl
-
-  sound-off : (i : ℕ) → 1 ≤ i → sound ps i ≡ i → barred (bandAt ps i) ≡ true → sound ps (suc i) ≡ i
-  sound-off i h e f = sound-step i false e (ap (λ (t : Bool). eqb i 0 || not t) f ∙ ap (λ (t : Bool). t || false) (ne-eqb i 0 (λ z. omega arith)))
-
-  -- once refused, it stays
-  sound-stays : (i m : ℕ) → i < m → sound ps m ≡ i → sound ps (suc m) ≡ i
-  unfolding sound
-  sound-stays i m h e = ap (λ (t : Bool). cond (t && (eqb m 0 || not (barred (bandAt ps m)))) (suc m) (sound ps m)) (ne-eqb (sound ps m) m (λ z. off z)) ∙ e
-    where
-      off : sound ps m ≡ m → ⊥
-      off z = omega arith
-
-  sound-ends : (i m : ℕ) → sound ps (suc i) ≡ i → i < m → sound ps m ≡ i
-  sound-ends i zero e h = absurd (not-suc-le-zero h)
-  sound-ends i (suc m) e h = ⊎-elim (λ z. subst (λ (k : ℕ). sound ps (suc k) ≡ i) z e) (λ l. sound-stays i m l (sound-ends i m e l)) (eq-or-lt-of-le (le-of-suc-le-suc h))
+  sound-off i n h e f l = before-stop (kept ps) i n e (ap (λ (t : Bool). eqb i 0 || not t) f ∙ ap (λ (t : Bool). t || false) (ne-eqb i 0 (λ z. omega arith))) l
 
   pub opened : (i : ℕ) → mul binary32 (bandAt ps i) (multOf (ps (suc i))) ≡ bandAt ps (suc i)
   unfolding bandAt
   opened i = refl
 
+  pub sound-le : (n : ℕ) → sound ps n ≤ n
+  unfolding sound
+  sound-le n = before-le (kept ps) n
+
   sound-zero : sound ps 0 ≡ 0
   unfolding sound
-  sound-zero = refl
+  sound-zero = before-none (kept ps)
+
+  sound-one : sound ps 1 ≡ 1
+  unfolding sound
+  sound-one = before-more (kept ps) 0 (before-none (kept ps)) refl
 
   pub first-band : bandAt ps 0 ≡ ps 0
   unfolding bandAt
@@ -106,12 +94,12 @@ module _ (ps : ℕ → Float) where
     sounding-more h f = record {
       from = omega arith;
       within = omega arith;
-      all = ap (sound ps) (add-one i) ∙ sound-on i (s .all) (sym (ap barred next) ∙ f) ∙ sym (add-one i);
+      all = sound-on i (s .all) (sym (ap barred next) ∙ f);
       is = next ∙ ap (bandAt ps) (same-last i);
     }
 
     pub sounding-stop : i < n → barred (mul binary32 last m) ≡ true → i ≡ sound ps n
-    sounding-stop h f = sym (sound-ends i n (sound-off i (s .from) (s .all) (sym (ap barred next) ∙ f)) h)
+    sounding-stop h f = sym (sound-off i n (s .from) (s .all) (sym (ap barred next) ∙ f) h)
 
   pub sounding-all : (n i : ℕ) (last : Float) → n ≤ i → Sounding ps n i last → i ≡ sound ps n
   sounding-all n i last h s = sym (s .all) ∙ ap (sound ps) (same-end n i h (s .within))
@@ -160,31 +148,15 @@ module _ (ps : ℕ → Float) where
   }
 
   -- ---- where all are sound, none after the first is refused
-  sound-le : (n : ℕ) → sound ps n ≤ n
-  unfolding sound
-  sound-le zero = le-refl 0
-  sound-le (suc n) = go (eqb (sound ps n) n && (eqb n 0 || not (barred (bandAt ps n)))) (sound-le n)
-    where
-      go : (b : Bool) → sound ps n ≤ n → cond b (suc n) (sound ps n) ≤ suc n
-      go true h = le-refl (suc n)
-      go false h = le-trans h (native.Mathlib.Nat.le-suc n)
-
-  before : (n : ℕ) → sound ps (suc n) ≡ suc n → (sound ps n ≡ n) × ((eqb n 0 || not (barred (bandAt ps n))) ≡ true)
-  unfolding sound
-  before n e = go (eqb (sound ps n) n) (eqb n 0 || not (barred (bandAt ps n))) refl refl e
-    where
-      over : sound ps n ≡ suc n → ⊥
-      over q = let h : sound ps n ≤ n = sound-le n in omega arith
-
-      go : (a b : Bool) → eqb (sound ps n) n ≡ a → (eqb n 0 || not (barred (bandAt ps n))) ≡ b → cond (a && b) (suc n) (sound ps n) ≡ suc n → (sound ps n ≡ n) × (b ≡ true)
-      go true true f g q = (eqb-true (sound ps n) n f, refl)
-      go true false f g q = absurd (over q)
-      go false b f g q = absurd (over q)
-
   pub all-sound : (n j : ℕ) → sound ps n ≡ n → 1 ≤ j → j < n → barred (bandAt ps j) ≡ false
-  all-sound zero j e h l = absurd (not-suc-le-zero l)
-  all-sound (suc n) j e h l = ⊎-elim (λ q. subst (λ (k : ℕ). barred (bandAt ps k) ≡ false) (sym q) (last (eqb n 0) (barred (bandAt ps n)) (ne-eqb n 0 (λ z. omega arith)) (before n e .1))) (λ q. all-sound n j (before n e .0) h q) (eq-or-lt-of-le (le-of-suc-le-suc l))
+  unfolding sound
+  all-sound n j e h l = last (eqb j 0) (barred (bandAt ps j)) (ne-eqb j 0 (λ z. omega arith)) (before-each (kept ps) n (le-of-eq (sym e)) j l)
     where
       last : (a b : Bool) → a ≡ false → (a || not b) ≡ true → b ≡ false
       last a true f g = absurd (false≢true (sym (ap (λ (t : Bool). t || false) f) ∙ g))
       last a false f g = refl
+
+  -- and where none is refused, all are sound
+  pub sound-every : (n : ℕ) → ((i : ℕ) → i < n → barred (bandAt ps i) ≡ false) → sound ps n ≡ n
+  unfolding sound
+  sound-every n f = before-every (kept ps) n (λ i h. ap (λ (b : Bool). eqb i 0 || not b) (f i h) ∙ or-true (eqb i 0))

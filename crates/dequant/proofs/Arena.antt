@@ -10,11 +10,11 @@ use borrow.Author.Tests.{lt-ltb, eq-eqb}
 use lib.ListN.{length, getD, take, drop, length-append}
 use lib.Seq.{take-append-le, drop-append-le, take-at, drop-at, take-all, getD-take, getD-drop, length-take-le}
 use lib.Ieee.{Float, nan}
-use Rattle.transform.specs.Kinds.{areaOf, placesOf, startOf}
+use Rattle.transform.specs.Kinds.{areaOf, placesOf, startOf, part}
 use Rattle.transform.proofs.Laws.{total}
 use Rattle.matrix.proofs.Chain.{next}
 use Rattle.dequant.specs.declared.shown.Order.{Order}
-use Rattle.dequant.specs.Set.{part, arenaOf}
+use Rattle.dequant.specs.Set.{arenaOf}
 use Rattle.dequant.specs.Shown.{named, channelPart, found, shown}
 use Rattle.dequant.proofs.Parts.{channel-end}
 

@@ -7,7 +7,7 @@ use lib.IntN.{ℤ, pos, natAbs}
 use lib.ListN.{length, getD, drop}
 use lib.Seq.{getD-take, getD-drop}
 use lib.Ieee.{Float, nan}
-use Rattle.transform.specs.Kinds.{widthOf, heightOf, placesOf, startOf}
+use Rattle.transform.specs.Kinds.{widthOf, heightOf, placesOf, startOf, part}
 use Rattle.params.specs.Allowed.{rowAt, modeAt}
 use Rattle.matrix.specs.Mirror.{straightPlace, transposedPlace}
 use Rattle.matrix.specs.Weight.{weightAt}
@@ -15,7 +15,7 @@ use Rattle.matrix.specs.declared.Expanded.the-variants.{Done}
 use Rattle.matrix.proofs.Places.{straight-in, weights-at}
 use Rattle.matrix.proofs.RawPlaces.{Raw, straight-differs, in-range}
 use Rattle.dequant.specs.declared.shown.Order.the-variants.{Unnamed, Straight, Transposed}
-use Rattle.dequant.specs.Set.{part, straightArena, transposedArena, expandSet}
+use Rattle.dequant.specs.Set.{straightArena, transposedArena, expandSet}
 use Rattle.dequant.specs.Shown.{shown}
 use Rattle.dequant.proofs.Kindwise.{mode-at}
 use Rattle.dequant.proofs.Expanded.{kind-done}

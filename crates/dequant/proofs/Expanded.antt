@@ -11,7 +11,7 @@ use lib.Dec.{ltb}
 use lib.IntN.{ℤ}
 use lib.ListN.{length}
 use lib.Ieee.{Float}
-use Rattle.transform.specs.Kinds.{placesOf, startOf}
+use Rattle.transform.specs.Kinds.{placesOf, startOf, part}
 use Rattle.params.specs.Allowed.{rowAt, rowFault}
 use Rattle.matrix.specs.Mirror.{mirror}
 use Rattle.matrix.specs.Weight.{weightsOf}
@@ -19,7 +19,7 @@ use Rattle.matrix.specs.Expanded.{orElse, kindAnswer, expandAnswer, leaves}
 use Rattle.matrix.specs.declared.Expanded.{Expanded}
 use Rattle.matrix.specs.declared.Expanded.the-variants.{Done, Lent, Row, Band, Weight}
 use Rattle.matrix.proofs.Places.{both}
-use Rattle.dequant.specs.Set.{part, straightOf, transposedOf, arenaOf, straightArena, transposedArena, setLent, kindsAnswer, expandSet}
+use Rattle.dequant.specs.Set.{straightOf, transposedOf, arenaOf, straightArena, transposedArena, setLent, kindsAnswer, expandSet}
 use Rattle.dequant.specs.Views.{Fit}
 use Rattle.dequant.proofs.Lent.{fits}
 use Rattle.dequant.proofs.Kindwise.{part-length, handed, straight-length, transposed-length}

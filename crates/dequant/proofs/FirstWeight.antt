@@ -15,7 +15,9 @@ use Rattle.bitstream.specs.Half.{half, barred}
 use Rattle.params.specs.Allowed.{entryRow, rowAllowed}
 use Rattle.params.proofs.FaultLaws.{allowed-entry}
 use Rattle.matrix.specs.declared.Expanded.the-variants.{Done, Weight}
-use Rattle.matrix.specs.Mirror.{passed}
+use Rattle.transform.proofs.FirstLaws.{before-none}
+use Rattle.matrix.specs.Mirror.{passing}
+use Rattle.matrix.proofs.Passed.{stops as at-first}
 use Rattle.matrix.specs.Raw.{weightOf, refused}
 use Rattle.matrix.specs.Weight.{weightsOf}
 use Rattle.matrix.specs.Expanded.{replyOf, weightAnswer, expandAnswer}
@@ -33,9 +35,9 @@ pub record Raw (row : List ℕ) (zs : List ℤ) (d : ℕ) (z : ℤ) : Type 0 whe
   pub first : getD zs 0 (pos 0) ≡ z
 
 stops : (w : Float) (ws : List Float) → refused w ≡ true → weightAnswer 0 (w ∷ ws) ≡ Weight 0 0 0
-unfolding weightAnswer passed areaOf
+unfolding weightAnswer areaOf
 stops w ws g =
-    ap (λ (n : ℕ). cond (ltb n (suc (length ws))) (Weight 0 (n / areaOf 0) (n % areaOf 0)) Done) (ap (λ (b : Bool). cond b 0 (suc (passed ws))) g)
+    ap (λ (n : ℕ). cond (ltb n (suc (length ws))) (Weight 0 (n / areaOf 0) (n % areaOf 0)) Done) (sym (at-first (w ∷ ws) 0 (before-none (passing (w ∷ ws))) (zero-lt-suc (length ws)) g))
     ∙ ap (λ (b : Bool). cond b (Weight 0 0 0) Done) (lt-ltb 0 (suc (length ws)) (zero-lt-suc (length ws)))
 
 places : 192 ≡ placesOf 0

@@ -15,7 +15,7 @@ use lib.ListN.{length, getD, take, drop, replicate, length-append, length-drop}
 use lib.Seq.{length-take-le, take-nil, drop-nil, getD-take, getD-drop, take-at, take-all}
 use lib.Ieee.{Float, fin}
 use borrow.Rule.Slice.PartMut.{putMid, post-is}
-use Rattle.transform.specs.Kinds.{areaOf, placesOf, startOf}
+use Rattle.transform.specs.Kinds.{areaOf, placesOf, startOf, part}
 use Rattle.transform.proofs.Laws.{end-le, total}
 use Rattle.params.specs.Allowed.{rowAt, modeAt}
 use Rattle.matrix.specs.Mirror.{mirror, passed}
@@ -30,7 +30,7 @@ use Rattle.matrix.proofs.Places.{weights-length}
 use Rattle.matrix.proofs.Answered.{refused-leaves}
 use Rattle.matrix.proofs.Replies.{done-is, stops}
 use Rattle.matrix.proofs.Said.{says-kind}
-use Rattle.dequant.specs.Set.{part, straightOf, transposedOf, arenaOf, kindsAnswer}
+use Rattle.dequant.specs.Set.{straightOf, transposedOf, arenaOf, kindsAnswer}
 use Rattle.dequant.specs.Views.{Fit, laid}
 
 -- ---- a kind's part

@@ -11,44 +11,18 @@ use lib.Dec.{ltb, eqb}
 use lib.IntN.{ℤ}
 use lib.ListN.{length}
 use Rattle.transform.specs.First.{before}
-use Rattle.transform.proofs.FirstLaws.{before-le, before-stop}
+use Rattle.transform.proofs.FirstLaws.{before-each}
 use Rattle.params.specs.Allowed.{rowAt, modeAt, rowAllowed, flagFault, rowFault, checkRows}
 use Rattle.params.specs.declared.rows.RowCheck.the-variants as check
 use Rattle.matrix.specs.declared.Expanded.{Expanded}
 use Rattle.matrix.specs.declared.Expanded.the-variants.{Done, Lent, Row}
 use Rattle.matrix.proofs.Chain.{here, next, left, right}
-use Rattle.dequant.specs.Set.{anyRaw, samplesLent, setLent, kindsAnswer, expandSet}
+use Rattle.params.specs.Raw.{samplesLent}
+use Rattle.params.proofs.RawLaws.{lent-some}
+use Rattle.dequant.specs.Set.{setLent, kindsAnswer, expandSet}
 use Rattle.dequant.specs.Views.{Fit}
 
--- ---- some row is raw
-module _ (rows : List ℕ) where
-  abbrev plain : ℕ → Bool
-  plain k = not (eqb (modeAt rows k) 7)
-
-  pub raw-at : (k : ℕ) → k < 17 → before plain k ≡ k → modeAt rows k ≡ 7 → true ≡ anyRaw rows
-  unfolding anyRaw
-  raw-at k h e m = sym (ap (λ (n : ℕ). ltb n 17) (before-stop plain k 17 e (ap not (eq-eqb (modeAt rows k) 7 m)) h) ∙ lt-ltb k 17 h)
-
-  pub raw-none : (k : ℕ) → 17 ≤ k → k ≤ 17 → before plain k ≡ k → false ≡ anyRaw rows
-  unfolding anyRaw
-  raw-none k h l e = let s : k ≡ 17 = omega arith in sym (ap (λ (n : ℕ). ltb n 17) (ap (before plain) (sym s) ∙ e ∙ s))
-
 -- ---- the tests in a row
-pub all-samples : (rows : List ℕ) (n : ℕ) → n ≡ 394752 → true ≡ samplesLent rows n
-all-samples rows n e = sym (ap (λ (b : Bool). b || (eqb n 0 && not (anyRaw rows))) (eq-eqb n 394752 e))
-
-pub some-samples : (rows : List ℕ) (n : ℕ) → (n ≡ 394752 → ⊥) → 0 < n → false ≡ samplesLent rows n
-some-samples rows n e h =
-    sym (ap (λ (b : Bool). b || (eqb n 0 && not (anyRaw rows))) (ne-eqb n 394752 e) ∙ ap (λ (b : Bool). b && not (anyRaw rows)) (ne-eqb n 0 (λ z. above z)))
-  where
-    above : n ≡ 0 → ⊥
-    above z = omega arith
-
-pub no-samples : (rows : List ℕ) (n : ℕ) (r : Bool) → (n ≡ 394752 → ⊥) → n ≤ 0 → r ≡ anyRaw rows → not r ≡ samplesLent rows n
-no-samples rows n r e h f =
-    ap not f
-    ∙ sym (ap (λ (b : Bool). b || (eqb n 0 && not (anyRaw rows))) (ne-eqb n 394752 e) ∙ ap (λ (b : Bool). b && not (anyRaw rows)) (eq-eqb n 0 (omega arith)))
-
 module _ (rows : List ℕ) (n s t : ℕ) where
   pub no-rows : (length rows ≡ 2176 → ⊥) → false ≡ setLent rows n s t
   unfolding setLent
@@ -71,38 +45,12 @@ module _ (rows : List ℕ) (n s t : ℕ) where
       (next (eqb s 394752) _ r (eq-eqb s 394752 f) (next (eqb t 394752) _ r (eq-eqb t 394752 g) w))
 
 -- ---- what it says
--- where all of 0, .., n - 1 pass a test, each does
-each : (ok : ℕ → Bool) (n : ℕ) → n ≤ before ok n → (k : ℕ) → k < n → ok k ≡ true
-unfolding before
-each ok zero h k l = absurd (not-suc-le-zero l)
-each ok (suc n) h k l = go (eqb (before ok n) n) (ok n) refl refl h (λ g i. each ok n g k i)
-  where
-    go : (a b : Bool) → eqb (before ok n) n ≡ a → ok n ≡ b → suc n ≤ cond (a && b) (suc n) (before ok n) → (n ≤ before ok n → k < n → ok k ≡ true) → ok k ≡ true
-    go true true p q g r = ⊎-elim (λ e. ap ok e ∙ q) (r (le-of-eq (sym (eqb-true (before ok n) n p)))) (eq-or-lt-of-le (le-of-suc-le-suc l))
-    go true false p q g r = let z = before-le ok n in absurd (omega arith)
-    go false b p q g r = let z = before-le ok n in absurd (omega arith)
-
 pub record Given (rows : List ℕ) (n s t : ℕ) : Type 0 where
   pub slots : length rows ≡ 2176
   pub first : s ≡ 394752
   pub second : t ≡ 394752
   pub some : (n ≡ 394752) ⊎ (n ≡ 0)
   pub none : n ≡ 0 → (k : ℕ) → k < 17 → modeAt rows k ≡ 7 → ⊥
-
-plain-all : (rows : List ℕ) → anyRaw rows ≡ false → (k : ℕ) → k < 17 → modeAt rows k ≡ 7 → ⊥
-unfolding anyRaw
-plain-all rows e k h m =
-    true≢false (sym (each (plain rows) 17 (ltb-false (before (plain rows) 17) 17 e) k h) ∙ ap not (eq-eqb (modeAt rows k) 7 m))
-
-lent-some : (rows : List ℕ) (n : ℕ) → samplesLent rows n ≡ true → ((n ≡ 394752) ⊎ (n ≡ 0)) × (n ≡ 0 → (k : ℕ) → k < 17 → modeAt rows k ≡ 7 → ⊥)
-lent-some rows n = go (eqb n 394752) (eqb n 0) (anyRaw rows) refl refl refl
-  where
-    go : (a b c : Bool) → eqb n 394752 ≡ a → eqb n 0 ≡ b → anyRaw rows ≡ c → (a || (b && not c)) ≡ true
-        → ((n ≡ 394752) ⊎ (n ≡ 0)) × (n ≡ 0 → (k : ℕ) → k < 17 → modeAt rows k ≡ 7 → ⊥)
-    go true b c p q r e = let z = eqb-true n 394752 p in (inl z, λ i k h m. omega arith)
-    go false true false p q r e = (inr (eqb-true n 0 q), λ i. plain-all rows r)
-    go false true true p q r e = absurd (true≢false (sym e))
-    go false false c p q r e = absurd (true≢false (sym e))
 
 pub given : (rows : List ℕ) (n s t : ℕ) → setLent rows n s t ≡ true → Given rows n s t
 unfolding setLent
@@ -126,7 +74,7 @@ rows-fine rows h k l = go (flagFault rows) h
   where
     go : (b : Bool) → 17 ≤ cond b 0 (before (λ kind. rowAllowed kind (rowAt rows kind)) 17) → rowAllowed k (rowAt rows k) ≡ true
     go true g = absurd (omega arith)
-    go false g = each (λ kind. rowAllowed kind (rowAt rows kind)) 17 g k l
+    go false g = before-each (λ kind. rowAllowed kind (rowAt rows kind)) 17 g k l
 
 -- the three outcomes of the ROW check, where the rows are as many as they should be
 module _ (rows : List ℕ) (e : length rows ≡ 2176) where

@@ -10,7 +10,7 @@ use lib.IntN.{ℤ}
 use lib.ListN.{length, getD, take, drop}
 use lib.Seq.{take-nil, take-take, drop-drop}
 use lib.Ieee.{Float, nan}
-use Rattle.transform.specs.Kinds.{widthOf, heightOf, areaOf, placesOf, startOf}
+use Rattle.transform.specs.Kinds.{widthOf, heightOf, areaOf, placesOf, startOf, part}
 use Rattle.transform.specs.Transforms.{kindOf}
 use Rattle.transform.specs.declared.TransformType.{TransformType}
 use Rattle.transform.specs.declared.TransformType.the-variants.{Dct8, Hornuss, Dct2, Dct4, Dct16, Dct32, Dct16x8, Dct8x16, Dct32x8, Dct8x32, Dct32x16, Dct16x32, Dct4x8, Dct8x4, Afv0, Afv1, Afv2, Afv3, Dct64, Dct64x32, Dct32x64, Dct128, Dct128x64, Dct64x128, Dct256, Dct256x128, Dct128x256}
@@ -20,7 +20,7 @@ use Rattle.matrix.specs.Weight.{weightAt}
 use Rattle.matrix.proofs.Places.{straight-in, transposed-in, weights-at, mirrored-at}
 use Rattle.dequant.specs.declared.shown.Order.{Order}
 use Rattle.dequant.specs.declared.shown.Order.the-variants.{Unnamed, Straight, Transposed}
-use Rattle.dequant.specs.Set.{part, straightOf, transposedOf, arenaOf, straightArena, transposedArena}
+use Rattle.dequant.specs.Set.{straightOf, transposedOf, arenaOf, straightArena, transposedArena}
 use Rattle.dequant.specs.Shown.{named, channelPart, shown}
 use Rattle.dequant.proofs.Kindwise.{straight-length, transposed-length}
 use Rattle.dequant.proofs.Parts.{channel-end}

@@ -17,6 +17,7 @@ use Rattle.matrix.specs.Numbers.{listOf, count}
 use Rattle.matrix.specs.Views.{AllSound, Shaped, Ready, rulesOf, inverse}
 use Rattle.matrix.specs.Weight.{rule}
 use Rattle.bands.specs.Quant.{soundOf, channelOf}
+use Rattle.bands.proofs.Sound.{sound-le}
 use Rattle.bands.proofs.TableLaws.{length-tab}
 use Rattle.matrix.specs.declared.numbers.Numbers.{Numbers}
 use Rattle.matrix.specs.declared.Expanded.{Expanded}
@@ -103,15 +104,6 @@ module _ (n : Numbers) (k : ℕ) where
       ⊎-elim (λ z. subst (λ (j : ℕ). isDone (orElse (listAnswer n k j 0) (listAnswer n k j 1)) ≡ true) (sym z) (or-second (bandAnswer n k m) (orElse (listAnswer n k m 0) (listAnswer n k m 1)) e))
       (λ l. each-done m c (or-first (bandAnswer n k m) (orElse (listAnswer n k m 0) (listAnswer n k m 1)) e) l)
       (eq-or-lt-of-le (le-of-suc-le-suc h))
-
-sound-le : (ps : ℕ → Float) (m : ℕ) → sound ps m ≤ m
-unfolding sound
-sound-le ps zero = omega arith
-sound-le ps (suc m) = go (eqb (sound ps m) m && (eqb m 0 || not (barred (bandAt ps m)))) (sound-le ps m)
-  where
-    go : (t : Bool) → sound ps m ≤ m → cond t (suc m) (sound ps m) ≤ suc m
-    go true h = omega arith
-    go false h = omega arith
 
 list-sound : (n : Numbers) (k c l : ℕ) → isDone (listAnswer n k c l) ≡ true → soundOf (listOf n l) (count n l) c ≡ count n l
 unfolding listAnswer

@@ -117,7 +117,7 @@ weights-length row zs k = length-tab (placesOf k) (λ p. weightAt row zs k (p / 
 module _ (k : ℕ) (row : List ℕ) (zs : List ℤ) (s t : ℕ) (ok : expandAnswer k row zs s t ≡ Done) (c y x : ℕ) (hc : c < 3) (hy : y < heightOf k) (hx : x < widthOf k) where
   pub not-refused : refused (getD (weightsOf row zs k) (straightPlace k c y x) nan) ≡ false
   not-refused =
-      all-pass (weightsOf row zs k) (straightPlace k c y x) nan (done-says k row zs s t ok .all)
+      all-pass (weightsOf row zs k) (straightPlace k c y x) (done-says k row zs s t ok .all)
       (lt-of-lt-of-le (straight-in k c y x hc hy hx) (le-of-eq (sym (weights-length row zs k))))
 
   pub straight-between : Between (getD (weightsOf row zs k) (straightPlace k c y x) nan)

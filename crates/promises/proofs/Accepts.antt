@@ -9,7 +9,8 @@ use lib.IntN.{ℤ, pos}
 use lib.ListN.{length, getD, length-map, List·getD-map}
 use lib.Ieee.{Float, nan}
 use Rattle.transform.specs.First.{before}
-use Rattle.transform.specs.Kinds.{areaOf, placesOf}
+use Rattle.transform.proofs.FirstLaws.{before-every}
+use Rattle.transform.specs.Kinds.{areaOf, placesOf, part}
 use Rattle.bitstream.specs.Half.{half}
 use Rattle.params.specs.Allowed.{rowAt, rowAllowed, flagFault, rowFault}
 use Rattle.bands.proofs.TableLaws.{getD-tab}
@@ -21,19 +22,14 @@ use Rattle.matrix.specs.Numbers.{numbersOf}
 use Rattle.matrix.specs.Weight.{weightAt, weightsOf}
 use Rattle.matrix.specs.Expanded.{orElse, bandAnswer, weightAnswer, kindAnswer, expandAnswer}
 use Rattle.matrix.proofs.Lending.{all-samples, by-samples}
+use Rattle.matrix.proofs.Passed.{passed-all}
 use Rattle.matrix.proofs.Places.{weights-length}
 use Rattle.matrix.proofs.RowFacts.{facts}
 use Rattle.matrix.proofs.Said.{says-kind, raw-answer, raw-meaning}
-use Rattle.dequant.specs.Set.{part, kindsAnswer, setLent, expandSet}
+use Rattle.dequant.specs.Set.{kindsAnswer, setLent, expandSet}
 use Rattle.dequant.proofs.Lent.{says-kinds}
 
 -- ---- weights
--- where no weight is refused, all pass
-pub passed-all : (ws : List Float) → ((i : ℕ) → i < length ws → refused (getD ws i nan) ≡ false) → passed ws ≡ length ws
-unfolding passed
-passed-all [] f = refl
-passed-all (w ∷ ws) f = ap (λ (b : Bool). cond b 0 (suc (passed ws))) (f 0 (zero-lt-suc (length ws))) ∙ ap suc (passed-all ws (λ i h. f (suc i) (native.Mathlib.Nat.suc-le-suc-iff .1 h)))
-
 weights-done : (k : ℕ) (ws : List Float) → ((i : ℕ) → i < length ws → refused (getD ws i nan) ≡ false) → weightAnswer k ws ≡ Done
 unfolding weightAnswer
 weights-done k ws f = ap (λ (b : Bool). cond b (Weight k (passed ws / areaOf k) (passed ws % areaOf k)) Done) (le-ltb (passed ws) (length ws) (le-of-eq (sym (passed-all ws f))))
@@ -72,14 +68,6 @@ alone k row zs h l m ok =
     sym (says-kind k row zs (placesOf k) (placesOf k) (sym (by-samples k row (length zs) (placesOf k) (placesOf k) (placesOf k) refl true (le-of-suc-le-suc h) l refl refl (all-samples (length zs) (placesOf k) (getD row 0 0) m))) ok)
 
 -- ---- a set
--- where all of 0, .., n - 1 pass, none fails
-pub before-every : (ok : ℕ → Bool) (n : ℕ) → ((k : ℕ) → k < n → ok k ≡ true) → before ok n ≡ n
-unfolding before
-before-every ok zero f = refl
-before-every ok (suc n) f =
-    ap (λ (b : Bool). cond (b && ok n) (suc n) (before ok n)) (eq-eqb (before ok n) n (before-every ok n (λ k h. f k (lt-of-lt-of-le h (le-suc n)))))
-    ∙ ap (λ (b : Bool). cond b (suc n) (before ok n)) (f n (lt-suc-self n))
-
 -- kinds that are accepted each by itself are accepted one after the other
 pub kinds-done : (rows : List ℕ) (zs : List ℤ) (n : ℕ) → ((k : ℕ) → k < n → kindAnswer (rowAt rows k) (part k zs) k ≡ Done) → kindsAnswer rows zs n ≡ Done
 unfolding kindsAnswer

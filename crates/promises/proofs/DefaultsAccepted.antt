@@ -22,7 +22,8 @@ use Rattle.bands.proofs.Ranged.{Banded}
 use Rattle.matrix.specs.Defaults.{defaultMode}
 use Rattle.matrix.specs.Numbers.{each, readNumbers, defaultNumbers, defaultValue, numbersOf, numberOf, count, begins, bandNumber}
 use Rattle.transform.specs.First.{before}
-use Rattle.transform.specs.Kinds.{placesOf}
+use Rattle.transform.proofs.FirstLaws.{before-every}
+use Rattle.transform.specs.Kinds.{placesOf, part}
 use Rattle.params.specs.Allowed.{rowAt, modeAt, rowAllowed, entryRow, flagRow, flagFault, rowFault}
 use Rattle.params.proofs.FaultLaws.{allowed-entry}
 use Rattle.matrix.specs.declared.numbers.Numbers.{Numbers}
@@ -32,11 +33,13 @@ use Rattle.matrix.specs.Views.{Shaped}
 use Rattle.matrix.proofs.Lending.{by-samples}
 use Rattle.matrix.proofs.Meaning.{default-shaped}
 use Rattle.matrix.proofs.Said.{says-kind}
-use Rattle.dequant.specs.Set.{part, anyRaw, setLent, expandSet}
-use Rattle.dequant.proofs.Lent.{no-samples, says-kinds}
+use Rattle.params.specs.Raw.{anyRaw}
+use Rattle.dequant.specs.Set.{setLent, expandSet}
+use Rattle.params.proofs.RawLaws.{no-samples}
+use Rattle.dequant.proofs.Lent.{says-kinds}
 use Rattle.dequant.proofs.Lent.{by-samples as set-by-samples}
 use Rattle.dequant.proofs.Kindwise.{mode-at}
-use Rattle.promises.proofs.Accepts.{before-every, kinds-done}
+use Rattle.promises.proofs.Accepts.{kinds-done}
 use Rattle.promises.proofs.RawOnes.{many, many-length, many-row, drop-more}
 use Rattle.promises.proofs.RowNumbers.{listNumber, ownList, at-place, place, inside, defaults-room}
 use Rattle.promises.proofs.Tame.{used, Tame, tame-accepts}

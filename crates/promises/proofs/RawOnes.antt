@@ -9,7 +9,7 @@ use lib.IntN.{ℤ, pos}
 use lib.ListN.{length, getD, take, drop, replicate, length-append, length-replicate, getD-replicate}
 use lib.Seq.{take-at, drop-at, getD-take, getD-drop}
 use lib.Ieee.{round, mul, ofInt, le, ne}
-use Rattle.transform.specs.Kinds.{placesOf, startOf}
+use Rattle.transform.specs.Kinds.{placesOf, startOf, part}
 use Rattle.transform.proofs.Laws.{end-le}
 use Rattle.bitstream.specs.Half.{half}
 use Rattle.params.specs.Allowed.{rowAt, rowAllowed, entryRow, flagFault}
@@ -17,8 +17,9 @@ use Rattle.params.proofs.FaultLaws.{allowed-entry}
 use Rattle.matrix.specs.declared.Expanded.the-variants.{Done}
 use Rattle.matrix.specs.Raw.{weightOf, refused}
 use Rattle.matrix.specs.Expanded.{replyOf, kindAnswer, expandAnswer}
-use Rattle.dequant.specs.Set.{part, expandSet}
-use Rattle.dequant.proofs.Lent.{all-samples, by-samples}
+use Rattle.dequant.specs.Set.{expandSet}
+use Rattle.params.proofs.RawLaws.{all-samples}
+use Rattle.dequant.proofs.Lent.{by-samples}
 use Rattle.dequant.proofs.Kindwise.{part-length}
 use Rattle.promises.proofs.Accepts.{raw-accepts, alone, set-accepts}
 

@@ -16,6 +16,7 @@ use Rattle.transform.specs.Kinds.{widthOf, heightOf, areaOf, placesOf}
 use Rattle.transform.proofs.Laws.{at, width-le, height-le}
 use Rattle.bands.specs.Bands.{nought, one, atOf, bandAt, barred, sound}
 use Rattle.bands.specs.Freqs.{interpolated, freqWeight}
+use Rattle.bands.proofs.Sound.{sound-every}
 use Rattle.bands.proofs.Units.{Units, div-units}
 use Rattle.bands.proofs.Ranged.{Banded, round-banded}
 use Rattle.matrix.specs.declared.numbers.Numbers.{Numbers}
@@ -168,18 +169,6 @@ banded-passes b r = go b (r .at) (r .value) (lt-of-lt-of-le (pow-pos 125) (r .le
     go (inf s) g v h = absurd v
     go (fin true m e) g v h = absurd (mathlib.Core.Bool.true≢false (v .0))
     go (fin false m e) g v h = above-passes m e (lib.Ieee.Positive.first-pos (m * up e) (2 ^ 149) (subst (λ (z : ℕ). 0 < z) (sym (v .1)) (mul-pos h (down-pos e))))
-
-sound-every : (ps : ℕ → Float) (n : ℕ) → ((i : ℕ) → i < n → barred (bandAt ps i) ≡ false) → sound ps n ≡ n
-unfolding sound
-sound-every ps zero f = refl
-sound-every ps (suc n) f =
-    ap (λ (b : Bool). cond (b && (eqb n 0 || not (barred (bandAt ps n)))) (suc n) (sound ps n)) (eq-eqb (sound ps n) n (sound-every ps n (λ i h. f i (lt-of-lt-of-le h (le-suc n)))))
-    ∙ ap (λ (b : Bool). cond (eqb n 0 || not b) (suc n) (sound ps n)) (f n (lt-suc-self n))
-    ∙ ap (λ (b : Bool). cond b (suc n) (sound ps n)) (always (eqb n 0))
-  where
-    always : (b : Bool) → (b || true) ≡ true
-    always true = refl
-    always false = refl
 
 module _ (n : Numbers) (k : ℕ) (t : Tame n) where
   list-done : (l c : ℕ) → c < 3 → listAnswer n k c l ≡ Done

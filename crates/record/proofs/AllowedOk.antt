@@ -11,13 +11,14 @@ use lib.IntN.{ℤ, pos}
 use lib.ListN.{length, getD, set, take, drop, replicate}
 use lib.Seq.{take-all, drop-drop}
 use lib.Dec.{eqb, leb}
-use Rattle.transform.specs.Kinds.{placesOf, startOf}
+use Rattle.transform.specs.Kinds.{placesOf, startOf, part}
 use Rattle.params.specs.Allowed.{rowAt}
 use Rattle.record.specs.Format.{Format, pick, seqs, nothing}
 use Rattle.record.specs.Record.{digit, header}
 use Rattle.record.specs.Rows.{Row, rowFormat, rowFormats, allKinds, kindLines, rowsFormat}
 use Rattle.record.specs.Flat.{Flat, joinRows, samplesOf, cutRows, flatOf, flatFormat}
-use Rattle.record.specs.Description.{isRaw, partOf, rawParts, describe, fits32, Each, Allowed}
+use Rattle.params.specs.Raw.{isRaw}
+use Rattle.record.specs.Description.{rawParts, describe, fits32, Each, Allowed}
 use Rattle.record.specs.Stored.{Checked}
 use Rattle.record.proofs.FlatLaws.{all-good, all-count, flat-rows}
 use Rattle.record.proofs.OkLaws.{each-take, each-drop}
@@ -59,13 +60,13 @@ module _ (rows : List ℕ) (samples : List ℤ) (a : Allowed rows samples) where
   pub checked-of : Checked rows samples
   checked-of = record { bits = a .bits; lent = a .lent; row = a .row }
 
-  fits-part : (k : ℕ) (b : Bool) → Each fits32 (pick b (partOf samples k) [])
+  fits-part : (k : ℕ) (b : Bool) → Each fits32 (pick b (part k samples) [])
   fits-part k true = each-take fits32 (placesOf k) (drop (startOf k) samples) (each-drop fits32 (startOf k) samples (a .fits))
   fits-part k false = tt
 
   module _ (f : getD rows 126 0 ≡ 1 → ⊥) where
-    kind-here : (k : ℕ) → k < 17 → rowFormat k .Ok (rowAt rows k, pick (isRaw rows k) (partOf samples k) [])
-    kind-here k h = kind-ok rows samples checked-of f k h (pick (isRaw rows k) (partOf samples k) []) (part-count rows samples checked-of f k h) (fits-part k (isRaw rows k))
+    kind-here : (k : ℕ) → k < 17 → rowFormat k .Ok (rowAt rows k, pick (isRaw rows k) (part k samples) [])
+    kind-here k h = kind-ok rows samples checked-of f k h (pick (isRaw rows k) (part k samples) []) (part-count rows samples checked-of f k h) (fits-part k (isRaw rows k))
 
     kinds-seq : (k n : ℕ) → k + n ≤ 17 → seqs ([], []) (rowFormats k n) .Ok (cutRows (drop (k * 128) rows) (rawParts rows samples k n))
     kinds-seq k zero h = refl

@@ -11,7 +11,8 @@ use lib.ListN.{length, getD, set, take, drop, replicate, length-set, length-repl
 use lib.Seq.{ext-getD, getD-take, getD-drop, getD-set-same, getD-set-other, length-take-le}
 use lib.Dec.{eqb, ltb}
 use Rattle.transform.specs.First.{before}
-use Rattle.transform.proofs.FirstLaws.{before-le}
+use native.Mathlib.Nat.{le-of-eq}
+use Rattle.transform.proofs.FirstLaws.{before-each}
 use Rattle.params.specs.Row.{lists}
 use Rattle.params.specs.Allowed.{allZero, entryRow, flagRow, rowAllowed, rowAt, modeAt, rowFault}
 use Rattle.params.specs.Header.{allDefault}
@@ -23,7 +24,7 @@ use Rattle.record.specs.Description.{Each}
 use Rattle.record.specs.Stored.{Checked}
 use Rattle.record.proofs.FlatLaws.{row-good}
 use Rattle.record.proofs.OkLaws.{each-take, each-drop, entry-ok}
-use Rattle.record.proofs.SetStores.{before-passed, row-first, lent-rows}
+use Rattle.record.proofs.SetStores.{row-first, lent-rows}
 
 -- a row of mode 0 is all 0
 abbrev made : List ℕ → ℕ → List ℕ
@@ -57,10 +58,10 @@ module _ (rows : List ℕ) (samples : List ℤ) (a : Checked rows samples) (e : 
       go (no l) = omega arith
 
   pub mode-zero : (k : ℕ) → k < 17 → modeAt rows k ≡ 0
-  mode-zero k h = eqb-true (modeAt rows k) 0 (before-passed (λ kind. eqb (modeAt rows kind) 0) 17 k (omega (arith, zeros, before-le (λ kind. eqb (modeAt rows kind) 0) 17)) h)
+  mode-zero k h = eqb-true (modeAt rows k) 0 (before-each (λ kind. eqb (modeAt rows kind) 0) 17 zeros k h)
 
   passes : (k : ℕ) → k < 17 → rowAllowed k (rowAt rows k) ≡ true
-  passes k h = before-passed (λ i. rowAllowed i (rowAt rows i)) 17 k (fault-modes rows e zeros ∙ a .row) h
+  passes k h = before-each (λ i. rowAllowed i (rowAt rows i)) 17 (le-of-eq (sym (fault-modes rows e zeros ∙ a .row))) k h
 
   bits-here : (k : ℕ) → Each (λ v. v < 65536) (rowAt rows k)
   bits-here k = each-take (λ v. v < 65536) 128 (drop (k * 128) rows) (each-drop (λ v. v < 65536) (k * 128) rows (a .bits))

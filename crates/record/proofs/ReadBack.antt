@@ -13,11 +13,12 @@ use lib.IntN.{ℤ, pos}
 use lib.ListN.{length, getD, set, take, drop, length-drop}
 use lib.Seq.{sets, sets-eq, length-sets, ext-getD, getD-take, getD-drop, getD-set-other, length-take-le, take-at, drop-at}
 use lib.Dec.{eqb}
-use Rattle.transform.specs.Kinds.{placesOf, startOf}
+use Rattle.transform.specs.Kinds.{placesOf, startOf, part}
 use Rattle.transform.proofs.Laws.{end-le}
 use Rattle.record.specs.Format.{pick, done, whole}
 use Rattle.record.specs.Flat.{Flat, flatFormat}
-use Rattle.record.specs.Description.{isRaw, anyRaw, partOf, rawParts, describe, recordOf, Allowed, storeParts}
+use Rattle.params.specs.Raw.{isRaw, anyRaw}
+use Rattle.record.specs.Description.{rawParts, describe, recordOf, Allowed, storeParts}
 use Rattle.record.specs.declared.reader.Taken as taken
 use Rattle.record.specs.declared.reader.Taken.the-variants as takes
 use Rattle.record.specs.Replies.{readLent, readIs, readAnswer, rowsLeft, samplesLeft, rowsAfter, samplesAfter}
@@ -71,7 +72,7 @@ starts j (suc k) h = ⊎-elim (λ e. last e) (λ l. later l (starts j k l)) (eq-
     later l g = omega (arith, g)
 
 module _ (arena : List ℤ) (long : length arena ≡ 394752) (j : ℕ) (v : List ℤ) (few : length v ≤ placesOf j) where
-  pub other-part : (k : ℕ) → (k ≡ j → ⊥) → partOf (sets arena (startOf j) v) k ≡ partOf arena k
+  pub other-part : (k : ℕ) → (k ≡ j → ⊥) → part k (sets arena (startOf j) v) ≡ part k arena
   other-part k h =
       part-stays (pos 0) arena (startOf j) v (startOf k) (placesOf k) (omega (arith, end-le k, long))
       (λ x a b. go x a b (decLt k j))
@@ -80,46 +81,46 @@ module _ (arena : List ℤ) (long : length arena ≡ 394752) (j : ℕ) (v : List
       go x a b (yes l) = store-below (pos 0) arena (startOf j) v x (omega (arith, starts k j l))
       go x a b (no l) = store-above (pos 0) arena (startOf j) v x (omega (arith, starts j k (omega arith)))
 
-pub own-part : (arena : List ℤ) → length arena ≡ 394752 → (k : ℕ) (v : List ℤ) → length v ≡ placesOf k → partOf (sets arena (startOf k) v) k ≡ v
+pub own-part : (arena : List ℤ) → length arena ≡ 394752 → (k : ℕ) (v : List ℤ) → length v ≡ placesOf k → part k (sets arena (startOf k) v) ≡ v
 own-part arena long k v e =
     ap (λ (n : ℕ). take n (drop (startOf k) (sets arena (startOf k) v))) (sym e) ∙ part-stored (pos 0) arena (startOf k) v (omega (arith, e, end-le k, long))
 
 -- ---- the parts of all kinds, stored
 
-module _ (rows : List ℕ) (s : List ℤ) (full : (k : ℕ) → k < 17 → isRaw rows k ≡ true → length (partOf s k) ≡ placesOf k) where
-  size : (k : ℕ) → k < 17 → (b : Bool) → isRaw rows k ≡ b → length (pick b (partOf s k) []) ≤ placesOf k
+module _ (rows : List ℕ) (s : List ℤ) (full : (k : ℕ) → k < 17 → isRaw rows k ≡ true → length (part k s) ≡ placesOf k) where
+  size : (k : ℕ) → k < 17 → (b : Bool) → isRaw rows k ≡ b → length (pick b (part k s) []) ≤ placesOf k
   size k h true e = omega (arith, full k h e)
   size k h false e = omega arith
 
   -- kinds before the first stay
-  before-stays : (arena : List ℤ) → length arena ≡ 394752 → (j n k : ℕ) → j + n ≤ 17 → k < j → partOf (storeParts j (rawParts rows s j n) arena) k ≡ partOf arena k
+  before-stays : (arena : List ℤ) → length arena ≡ 394752 → (j n k : ℕ) → j + n ≤ 17 → k < j → part k (storeParts j (rawParts rows s j n) arena) ≡ part k arena
   before-stays arena long j zero k h l = refl
   before-stays arena long j (suc n) k h l =
-      let v : List ℤ = pick (isRaw rows j) (partOf s j) [] in
+      let v : List ℤ = pick (isRaw rows j) (part j s) [] in
       before-stays (sets arena (startOf j) v) (length-sets arena (startOf j) v ∙ long) (j + 1) n k (omega arith) (omega arith)
       ∙ other-part arena long j v (size j (omega arith) (isRaw rows j) refl) k (λ e. omega arith)
 
-  pub stored-part : (arena : List ℤ) → length arena ≡ 394752 → (j n k : ℕ) → j + n ≤ 17 → j ≤ k → k < j + n → partOf (storeParts j (rawParts rows s j n) arena) k ≡ pick (isRaw rows k) (partOf s k) (partOf arena k)
+  pub stored-part : (arena : List ℤ) → length arena ≡ 394752 → (j n k : ℕ) → j + n ≤ 17 → j ≤ k → k < j + n → part k (storeParts j (rawParts rows s j n) arena) ≡ pick (isRaw rows k) (part k s) (part k arena)
   stored-part arena long j zero k h l m = absurd (omega arith)
   stored-part arena long j (suc n) k h l m = go (ℕ-discrete k j) (λ i. stored-part (sets arena (startOf j) v) keeps (j + 1) n k (omega arith) i (omega arith))
     where
       v : List ℤ
-      v = pick (isRaw rows j) (partOf s j) []
+      v = pick (isRaw rows j) (part j s) []
 
-      keeps : length (sets arena (startOf j) (pick (isRaw rows j) (partOf s j) [])) ≡ 394752
-      keeps = length-sets arena (startOf j) (pick (isRaw rows j) (partOf s j) []) ∙ long
+      keeps : length (sets arena (startOf j) (pick (isRaw rows j) (part j s) [])) ≡ 394752
+      keeps = length-sets arena (startOf j) (pick (isRaw rows j) (part j s) []) ∙ long
 
-      here : (b : Bool) → isRaw rows j ≡ b → partOf (sets arena (startOf j) (pick b (partOf s j) [])) j ≡ pick b (partOf s j) (partOf arena j)
-      here true e = own-part arena long j (partOf s j) (full j (omega arith) e)
+      here : (b : Bool) → isRaw rows j ≡ b → part j (sets arena (startOf j) (pick b (part j s) [])) ≡ pick b (part j s) (part j arena)
+      here true e = own-part arena long j (part j s) (full j (omega arith) e)
       here false e = refl
 
-      go : Dec (k ≡ j) → (j + 1 ≤ k → partOf (storeParts (j + 1) (rawParts rows s (j + 1) n) (sets arena (startOf j) (pick (isRaw rows j) (partOf s j) []))) k ≡ pick (isRaw rows k) (partOf s k) (partOf (sets arena (startOf j) (pick (isRaw rows j) (partOf s j) [])) k))
-          → partOf (storeParts j (rawParts rows s j (suc n)) arena) k ≡ pick (isRaw rows k) (partOf s k) (partOf arena k)
+      go : Dec (k ≡ j) → (j + 1 ≤ k → part k (storeParts (j + 1) (rawParts rows s (j + 1) n) (sets arena (startOf j) (pick (isRaw rows j) (part j s) []))) ≡ pick (isRaw rows k) (part k s) (part k (sets arena (startOf j) (pick (isRaw rows j) (part j s) []))))
+          → part k (storeParts j (rawParts rows s j (suc n)) arena) ≡ pick (isRaw rows k) (part k s) (part k arena)
       go (yes e) ih =
-          subst⁻¹ (λ (i : ℕ). partOf (storeParts j (rawParts rows s j (suc n)) arena) i ≡ pick (isRaw rows i) (partOf s i) (partOf arena i)) e
-          (before-stays (sets arena (startOf j) (pick (isRaw rows j) (partOf s j) [])) keeps (j + 1) n j (omega arith) (omega arith) ∙ here (isRaw rows j) refl)
+          subst⁻¹ (λ (i : ℕ). part i (storeParts j (rawParts rows s j (suc n)) arena) ≡ pick (isRaw rows i) (part i s) (part i arena)) e
+          (before-stays (sets arena (startOf j) (pick (isRaw rows j) (part j s) [])) keeps (j + 1) n j (omega arith) (omega arith) ∙ here (isRaw rows j) refl)
       go (no e) ih =
-          ih (omega arith) ∙ ap (λ (t : List ℤ). pick (isRaw rows k) (partOf s k) t) (other-part arena long j (pick (isRaw rows j) (partOf s j) []) (size j (omega arith) (isRaw rows j) refl) k e)
+          ih (omega arith) ∙ ap (λ (t : List ℤ). pick (isRaw rows k) (part k s) t) (other-part arena long j (pick (isRaw rows j) (part j s) []) (size j (omega arith) (isRaw rows j) refl) k e)
 
 -- ---- reading what was written
 
@@ -143,18 +144,18 @@ module _ (r : List ℕ) (s : List ℤ) (a : Allowed r s) (rows : List ℕ) (aren
   unfolding samplesAfter
   left = (λ i. samplesLeft (back-answer i) (record-read r s a i) arena)
 
-  full : (k : ℕ) → k < 17 → isRaw r k ≡ true → length (partOf s k) ≡ placesOf k
+  full : (k : ℕ) → k < 17 → isRaw r k ≡ true → length (part k s) ≡ placesOf k
   full k h e = length-take-le (placesOf k) (drop (startOf k) s) (omega (arith, length-drop (startOf k) s, lent-raw r s k (a .lent) h e, end-le k))
 
   -- and so are the samples of the raw kinds; the others stay
-  pub back-samples : (k : ℕ) → k < 17 → partOf (samplesAfter (length rows) arena (recordOf r s)) k ≡ pick (isRaw r k) (partOf s k) (partOf arena k)
-  back-samples k h = ap (λ (t : List ℤ). partOf t k) left ∙ go (ℕ-discrete (getD r 126 0) 1)
+  pub back-samples : (k : ℕ) → k < 17 → part k (samplesAfter (length rows) arena (recordOf r s)) ≡ pick (isRaw r k) (part k s) (part k arena)
+  back-samples k h = ap (λ (t : List ℤ). part k t) left ∙ go (ℕ-discrete (getD r 126 0) 1)
     where
-      go : Dec (getD r 126 0 ≡ 1) → partOf (storeParts 0 (pick (eqb (getD r 126 0) 1) [] (rawParts r s 0 17)) arena) k ≡ pick (isRaw r k) (partOf s k) (partOf arena k)
+      go : Dec (getD r 126 0 ≡ 1) → part k (storeParts 0 (pick (eqb (getD r 126 0) 1) [] (rawParts r s 0 17)) arena) ≡ pick (isRaw r k) (part k s) (part k arena)
       go (yes e) =
           let z : modeAt r k ≡ 0 = mode-zero r s (checked-of r s a) e k h in
-          ap (λ (b : Bool). partOf (storeParts 0 (pick b [] (rawParts r s 0 17)) arena) k) (eq-eqb (getD r 126 0) 1 e)
-          ∙ sym (ap (λ (b : Bool). pick b (partOf s k) (partOf arena k)) (ne-eqb (modeAt r k) 7 (λ q. omega arith)))
+          ap (λ (b : Bool). part k (storeParts 0 (pick b [] (rawParts r s 0 17)) arena)) (eq-eqb (getD r 126 0) 1 e)
+          ∙ sym (ap (λ (b : Bool). pick b (part k s) (part k arena)) (ne-eqb (modeAt r k) 7 (λ q. omega arith)))
       go (no e) =
-          ap (λ (b : Bool). partOf (storeParts 0 (pick b [] (rawParts r s 0 17)) arena) k) (ne-eqb (getD r 126 0) 1 e)
+          ap (λ (b : Bool). part k (storeParts 0 (pick b [] (rawParts r s 0 17)) arena)) (ne-eqb (getD r 126 0) 1 e)
           ∙ stored-part r s full arena l 0 17 k (omega arith) (omega arith) (omega arith)

@@ -18,33 +18,11 @@ use Rattle.record.specs.declared.piece.Scan.the-variants as scans
 use Rattle.record.specs.declared.reader.Taken as taken
 use Rattle.record.specs.declared.reader.Taken.the-variants as takes
 use Rattle.record.specs.Flat.{Flat, flatFormat}
-use Rattle.record.specs.Description.{isRaw, anyRaw, storeParts}
+use Rattle.params.specs.Raw.{isRaw, anyRaw}
+use Rattle.record.specs.Description.{storeParts}
 use Rattle.record.specs.Replies.{readLent, readIs, readAnswer, rowsLeft, samplesLeft, rowsAfter, samplesAfter}
 use Rattle.record.specs.Answers.{shift, readAt, seen, FlatStored}
 use Rattle.record.proofs.Framed.{seen-got, seen-bad}
-
--- ---- any_raw
-
-abbrev pub noRaw : List ℕ → ℕ → Bool
-noRaw rows kind = not (isRaw rows kind)
-
-module _ (rows : List ℕ) (kind : ℕ) (inv : before (noRaw rows) kind ≡ kind) where
-  pub raw-here : kind < 17 → getD rows (kind * 128) 0 ≡ 7 → true ≡ anyRaw rows
-  unfolding anyRaw
-  raw-here h e =
-      let t : noRaw rows kind ≡ false = rw (eq-eqb (getD rows (kind * 128) 0) 7 e) in
-      sym (lt-ltb (before (noRaw rows) 17) 17 (subst⁻¹ (λ (i : ℕ). i < 17) (before-stop (noRaw rows) kind 17 inv t h) h))
-
-  pub raw-on : (getD rows (kind * 128) 0 ≡ 7 → ⊥) → before (noRaw rows) (kind + 1) ≡ kind + 1
-  raw-on h = before-more (noRaw rows) kind inv (rw (ne-eqb (getD rows (kind * 128) 0) 7 h))
-
-  pub raw-none : kind ≤ 17 → 17 ≤ kind → false ≡ anyRaw rows
-  unfolding anyRaw
-  raw-none h l = sym (le-ltb (before (noRaw rows) 17) 17 (omega (arith, before-all (noRaw rows) kind 17 inv h l)))
-
-pub raw-start : (rows : List ℕ) → before (noRaw rows) 0 ≡ 0
-unfolding before
-raw-start rows = refl
 
 -- ---- is_lent, no_room
 

@@ -12,9 +12,9 @@ use lib.IntN.{ℤ, pos}
 use lib.ListN.{length, getD, set, take, drop, replicate, length-set, length-replicate, length-append}
 use lib.Seq.{sets, length-sets, drop-drop}
 use lib.Dec.{eqb, ltb}
-use Rattle.transform.specs.Kinds.{placesOf, startOf}
+use Rattle.transform.specs.Kinds.{placesOf, startOf, part}
 use Rattle.transform.specs.First.{before}
-use Rattle.transform.proofs.FirstLaws.{before-more}
+use Rattle.transform.proofs.FirstLaws.{before-every}
 use Rattle.params.specs.Allowed.{rowAt, modeAt, entryRow, flagRow, rowAllowed, flagFault, rowFault}
 use Rattle.params.specs.Header.{allDefault}
 use Rattle.params.proofs.FaultLaws.{allowed-entry, fault-rows}
@@ -22,13 +22,15 @@ use Rattle.record.specs.Format.{Format, pick, shared, seqs, nothing, Lon
 use Rattle.record.specs.Record.{header, sampleCount}
 use Rattle.record.specs.Rows.{Row, rowFormat, rowFormats, allKinds, kindLines, rowsFormat}
 use Rattle.record.specs.Flat.{Flat, joinRows, cutRows, flatOf, rowsOf, flatFormat}
-use Rattle.record.specs.Description.{isRaw, partOf, rawParts, describe, recordOf, fits32, Each, Allowed, storeParts}
+use Rattle.params.specs.Raw.{isRaw}
+use Rattle.params.proofs.RawLaws.{all-samples}
+use Rattle.record.specs.Description.{rawParts, describe, recordOf, fits32, Each, Allowed, storeParts}
 use Rattle.record.proofs.Laws.{whole-text}
 use Rattle.record.proofs.FlatLaws.{flat-lawful, all-good, all-count, flat-rows, joined-length, small-flag}
 use Rattle.record.proofs.OkAllowed.{samples-fit, row-bits, row-passes, each-append, each-zero}
 use Rattle.record.proofs.KindStores.{ready}
 use Rattle.record.proofs.OkLaws.{each-of}
-use Rattle.record.proofs.SetStores.{lent-full, each-zeros, row-first}
+use Rattle.record.proofs.SetStores.{lent-else, each-zeros, row-first}
 use Rattle.record.proofs.ReadBack.{other-part, own-part}
 
 -- ---- lists of elements
@@ -41,11 +43,6 @@ each-set P (a ∷ l) (suc i) v p e = (e .0, each-set P l i v p (e .1))
 each-sets : {A : Type 0} (P : A → Type 0) (l : List A) (i : ℕ) (vs : List A) → Each P vs → Each P l → Each P (sets l i vs)
 each-sets P l i [] f e = e
 each-sets P l i (v ∷ vs) f e = each-sets P (set l i v) (suc i) vs (f .1) (each-set P l i v (f .0) e)
-
-all-pass : (ok : ℕ → Bool) (n : ℕ) → ((k : ℕ) → k < n → ok k ≡ true) → before ok n ≡ n
-unfolding before
-all-pass ok zero f = refl
-all-pass ok (suc n) f = rw (eq-eqb (before ok n) n (all-pass ok n (λ k h. f k (omega arith))), f n (omega arith))
 
 -- ---- lists of samples by kind
 
@@ -62,21 +59,21 @@ store-long : (j : ℕ) (vs : List (List ℤ)) (arena : List ℤ) → length (sto
 store-long j [] arena = refl
 store-long j (v ∷ vs) arena = store-long (j + 1) vs (sets arena (startOf j) v) ∙ length-sets arena (startOf j) v
 
-store-before : (j : ℕ) (vs : List (List ℤ)) (arena : List ℤ) → length arena ≡ 394752 → Sized j vs → (k : ℕ) → k < j → partOf (storeParts j vs arena) k ≡ partOf arena k
+store-before : (j : ℕ) (vs : List (List ℤ)) (arena : List ℤ) → length arena ≡ 394752 → Sized j vs → (k : ℕ) → k < j → part k (storeParts j vs arena) ≡ part k arena
 store-before j [] arena l f k h = refl
 store-before j (v ∷ vs) arena l f k h =
     store-before (j + 1) vs (sets arena (startOf j) v) (length-sets arena (startOf j) v ∙ l) (sized-tail j v vs f) k (omega arith)
     ∙ other-part arena l j v (sized-head j v vs f) k (λ e. omega arith)
 
-store-own : (j : ℕ) (vs : List (List ℤ)) (arena : List ℤ) → length arena ≡ 394752 → Sized j vs → (i : ℕ) → i < length vs → length (getD vs i []) ≡ placesOf (j + i) → partOf (storeParts j vs arena) (j + i) ≡ getD vs i []
+store-own : (j : ℕ) (vs : List (List ℤ)) (arena : List ℤ) → length arena ≡ 394752 → Sized j vs → (i : ℕ) → i < length vs → length (getD vs i []) ≡ placesOf (j + i) → part (j + i) (storeParts j vs arena) ≡ getD vs i []
 store-own j [] arena l f i h e = absurd (omega arith)
 store-own j (v ∷ vs) arena l f zero h e =
-    ap (partOf (storeParts (j + 1) vs (sets arena (startOf j) v))) (add-zero j)
+    ap (λ (k : ℕ). part k (storeParts (j + 1) vs (sets arena (startOf j) v))) (add-zero j)
     ∙ store-before (j + 1) vs (sets arena (startOf j) v) (length-sets arena (startOf j) v ∙ l) (sized-tail j v vs f) j (omega arith)
     ∙ own-part arena l j v (e ∙ ap placesOf (add-zero j))
 store-own j (v ∷ vs) arena l f (suc i) h e =
     let q : j + suc i ≡ j + 1 + i = omega arith in
-    ap (partOf (storeParts (j + 1) vs (sets arena (startOf j) v))) q
+    ap (λ (k : ℕ). part k (storeParts (j + 1) vs (sets arena (startOf j) v))) q
     ∙ store-own (j + 1) vs (sets arena (startOf j) v) (length-sets arena (startOf j) v ∙ l) (sized-tail j v vs f) i (omega arith) (e ∙ ap placesOf q)
 
 store-fits : (j : ℕ) (vs : List (List ℤ)) (arena : List ℤ) → Each (Each fits32) vs → Each fits32 arena → Each fits32 (storeParts j vs arena)
@@ -84,14 +81,14 @@ store-fits j [] arena f e = e
 store-fits j (v ∷ vs) arena f e = store-fits (j + 1) vs (sets arena (startOf j) v) (f .1) (each-sets fits32 arena (startOf j) v (f .0) e)
 
 -- the parts by kind are these lists
-raw-lists : (rows : List ℕ) (arena : List ℤ) (vs : List (List ℤ)) (j n : ℕ) → length vs ≡ n → ((i : ℕ) → i < n → pick (isRaw rows (j + i)) (partOf arena (j + i)) [] ≡ getD vs i []) → rawParts rows arena j n ≡ vs
+raw-lists : (rows : List ℕ) (arena : List ℤ) (vs : List (List ℤ)) (j n : ℕ) → length vs ≡ n → ((i : ℕ) → i < n → pick (isRaw rows (j + i)) (part (j + i) arena) [] ≡ getD vs i []) → rawParts rows arena j n ≡ vs
 raw-lists rows arena [] j zero e f = refl
 raw-lists rows arena (v ∷ vs) j zero e f = absurd (let q : suc (length vs) ≡ 0 = e in omega arith)
 raw-lists rows arena [] j (suc n) e f = absurd (let q : 0 ≡ suc n = e in omega arith)
 raw-lists rows arena (v ∷ vs) j (suc n) e f =
     let q : suc (length vs) ≡ suc n = e in
-    let a : pick (isRaw rows j) (partOf arena j) [] ≡ v = subst (λ (k : ℕ). pick (isRaw rows k) (partOf arena k) [] ≡ v) (add-zero j) (f 0 (omega arith)) in
-    let b : rawParts rows arena (j + 1) n ≡ vs = raw-lists rows arena vs (j + 1) n (omega arith) (λ i h. (let p : j + suc i ≡ j + 1 + i = omega arith in subst (λ (k : ℕ). pick (isRaw rows k) (partOf arena k) [] ≡ getD vs i []) p (f (suc i) (omega arith)))) in
+    let a : pick (isRaw rows j) (part j arena) [] ≡ v = subst (λ (k : ℕ). pick (isRaw rows k) (part k arena) [] ≡ v) (add-zero j) (f 0 (omega arith)) in
+    let b : rawParts rows arena (j + 1) n ≡ vs = raw-lists rows arena vs (j + 1) n (omega arith) (λ i h. (let p : j + suc i ≡ j + 1 + i = omega arith in subst (λ (k : ℕ). pick (isRaw rows k) (part k arena) [] ≡ getD vs i []) p (f (suc i) (omega arith)))) in
     λ t. a t ∷ b t
 
 -- ---- the kinds of a set
@@ -152,7 +149,7 @@ module _ (rows : List ℕ) (vs : List (List ℤ)) (count : length vs ≡ 17) (lo
   abbrev arena : List ℤ
   arena = storeParts 0 vs none
 
-  parts-are : (i : ℕ) → i < 17 → pick (isRaw rows (0 + i)) (partOf (storeParts 0 vs none) (0 + i)) [] ≡ getD vs i []
+  parts-are : (i : ℕ) → i < 17 → pick (isRaw rows (0 + i)) (part (0 + i) (storeParts 0 vs none)) [] ≡ getD vs i []
   parts-are i h = go (ℕ-discrete (modeAt rows i) 7)
     where
       q : 0 + i ≡ i
@@ -161,14 +158,14 @@ module _ (rows : List ℕ) (vs : List (List ℤ)) (count : length vs ≡ 17) (lo
       s : length (getD vs i []) ≡ sampleCount i (getD (rowAt rows i) 0 0)
       s = ready i (rowAt rows i) (getD vs i []) (row i h) .samples
 
-      go : Dec (modeAt rows i ≡ 7) → pick (isRaw rows (0 + i)) (partOf (storeParts 0 vs none) (0 + i)) [] ≡ getD vs i []
+      go : Dec (modeAt rows i ≡ 7) → pick (isRaw rows (0 + i)) (part (0 + i) (storeParts 0 vs none)) [] ≡ getD vs i []
       go (yes e) =
           let m : sampleCount i (getD (rowAt rows i) 0 0) ≡ placesOf (0 + i) = rw (eq-eqb (getD (rowAt rows i) 0 0) 7 (mode-here i ∙ e)) (ap placesOf (sym q)) in
-          ap (λ (b : Bool). pick b (partOf (storeParts 0 vs none) (0 + i)) []) (ap (isRaw rows) q ∙ eq-eqb (modeAt rows i) 7 e)
+          ap (λ (b : Bool). pick b (part (0 + i) (storeParts 0 vs none)) []) (ap (isRaw rows) q ∙ eq-eqb (modeAt rows i) 7 e)
           ∙ store-own 0 vs none (length-replicate 394752 (pos 0)) sized i (omega (arith, count)) (s ∙ m)
       go (no e) =
           let m : sampleCount i (getD (rowAt rows i) 0 0) ≡ 0 = rw (ne-eqb (getD (rowAt rows i) 0 0) 7 (λ z. e (sym (mode-here i) ∙ z))) in
-          ap (λ (b : Bool). pick b (partOf (storeParts 0 vs none) (0 + i)) []) (ap (isRaw rows) q ∙ ne-eqb (modeAt rows i) 7 e) ∙ empty (getD vs i []) (s ∙ m)
+          ap (λ (b : Bool). pick b (part (0 + i) (storeParts 0 vs none)) []) (ap (isRaw rows) q ∙ ne-eqb (modeAt rows i) 7 e) ∙ empty (getD vs i []) (s ∙ m)
 
   pub kinds-describe : describe rows (storeParts 0 vs none) ≡ (rows, vs)
   kinds-describe =
@@ -201,8 +198,8 @@ module _ (rows : List ℕ) (vs : List (List ℤ)) (count : length vs ≡ 17) (lo
   kinds-allowed = record {
     bits = each-of (λ v. v < 65536) 0 rows bit;
     fits = store-fits 0 vs none (each-of (Each fits32) [] vs fit) (each-zeros 394752);
-    lent = sym (lent-full rows (storeParts 0 vs none) long (store-long 0 vs none ∙ length-replicate 394752 (pos 0)));
-    row = sym (fault-rows rows f) ∙ all-pass (λ k. rowAllowed k (rowAt rows k)) 17 (λ k h. sym (allowed-entry k (rowAt rows k) (omega arith) (row-passes k (rowAt rows k) (getD vs k []) (row k h))));
+    lent = sym (lent-else rows (storeParts 0 vs none) long true (all-samples rows (length (storeParts 0 vs none)) (store-long 0 vs none ∙ length-replicate 394752 (pos 0))));
+    row = sym (fault-rows rows f) ∙ before-every (λ k. rowAllowed k (rowAt rows k)) 17 (λ k h. sym (allowed-entry k (rowAt rows k) (omega arith) (row-passes k (rowAt rows k) (getD vs k []) (row k h))));
   }
 
 -- ---- a whole set
@@ -229,7 +226,7 @@ default-behind = record {
   allowed = record {
     bits = each-set (λ v. v < 65536) (replicate 2176 0) 126 1 (omega arith) (each-zero 2176);
     fits = each-zeros 394752;
-    lent = sym (lent-full allDefault none (length-set {A = ℕ} (replicate 2176 0) 126 1 ∙ length-replicate {A = ℕ} 2176 0) (length-replicate 394752 (pos 0)));
+    lent = sym (lent-else allDefault none (length-set {A = ℕ} (replicate 2176 0) 126 1 ∙ length-replicate {A = ℕ} 2176 0) true (all-samples allDefault (length none) (length-replicate 394752 (pos 0))));
     row = default-fault;
   };
   same = refl;

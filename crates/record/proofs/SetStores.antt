@@ -1,10 +1,10 @@
 -- What the writers of all kinds and of a whole record go by. Assumes nothing.
 use mathlib.Core.Path.{_≡_, refl, sym, ap, _∙_, subst, subst⁻¹}
 use mathlib.Core.List.{List, [], _∷_, _++_, append-assoc, append-nil}
-use mathlib.Core.Bool.{Bool, true, false, not, _&&_, _||_, cond}
+use mathlib.Core.Bool.{Bool, true, false, not, _&&_, _||_, cond, true≢false}
 use mathlib.Core.Logic.{⊎-elim}
 use Prim.Native.Nat.{ℕ, zero, suc, _+_, _*_, _-_, _≤_, _<_}
-use native.Mathlib.Nat.{eq-or-lt-of-le, le-of-suc-le-suc, not-suc-le-zero, zero-add}
+use native.Mathlib.Nat.{le-of-eq, zero-add}
 use native.Mathlib.Omega.{arith}
 use native.Mathlib.Decide.{ℕ-discrete, decLt}
 use borrow.Author.Tests.{eq-eqb, ne-eqb, eqb-true, lt-ltb, le-ltb, ltb-true, ltb-false, not-true}
@@ -12,10 +12,10 @@ use lib.IntN.{ℤ, pos}
 use lib.ListN.{length, getD, take, drop, replicate, length-drop, length-replicate}
 use lib.Seq.{sets, sets-eq, length-take-le, getD-take, getD-drop, drop-drop}
 use lib.Dec.{eqb, ltb}
-use Rattle.transform.specs.Kinds.{placesOf, startOf}
+use Rattle.transform.specs.Kinds.{placesOf, startOf, part}
 use Rattle.transform.proofs.Laws.{end-le}
 use Rattle.transform.specs.First.{before}
-use Rattle.transform.proofs.FirstLaws.{before-le}
+use Rattle.transform.proofs.FirstLaws.{before-le, before-each}
 use Rattle.params.specs.Allowed.{rowAt, modeAt, entryRow, flagRow, rowAllowed, rowFault}
 use Rattle.params.proofs.AllowedLaws.{and-true}
 use Rattle.params.proofs.FaultLaws.{fault-rows}
@@ -23,7 +23,9 @@ use Rattle.record.specs.Format.{Format, pick, seqs, nothing}
 use Rattle.record.specs.Record.{sampleCount, header, modeLines, parts}
 use Rattle.record.specs.Rows.{Row, entryOf, rowFormat, rowFormats, allKinds, kindLines, rowsFormat}
 use Rattle.record.specs.Flat.{cutRows, flatFormat}
-use Rattle.record.specs.Description.{isRaw, anyRaw, lentFault, partOf, rawParts, describe, recordOf, fits32, Each}
+use Rattle.params.specs.Raw.{isRaw, samplesLent}
+use Rattle.params.proofs.RawLaws.{lent-some}
+use Rattle.record.specs.Description.{lentFault, rawParts, describe, recordOf, fits32, Each}
 use Rattle.record.specs.Stored.{Stored, Ready, Checked, kindText, kindTexts}
 use Rattle.params.specs.Allowed.{flagFault, checkRows}
 use Rattle.params.specs.declared.rows.RowCheck as check
@@ -37,20 +39,8 @@ use Rattle.record.proofs.Stores.{Put, put-start, put-text}
 use Rattle.record.proofs.FlatLaws.{row-good}
 use Rattle.record.proofs.OkLaws.{each-take, each-drop, each-of, entry-ok}
 use Rattle.record.proofs.KindStores.{ready, row-stored}
-use Rattle.record.proofs.ReadPlaces.{noRaw}
 
 -- ---- what a set's check says of each kind
-
--- where all pass, each does
-pub before-passed : (ok : ℕ → Bool) (n k : ℕ) → before ok n ≡ n → k < n → ok k ≡ true
-unfolding before
-before-passed ok zero k e h = absurd (not-suc-le-zero h)
-before-passed ok (suc n) k e h = go (λ p l. before-passed ok n k p l) (eqb (before ok n) n) (ok n) refl refl
-  where
-    go : (before ok n ≡ n → k < n → ok k ≡ true) → (a b : Bool) → eqb (before ok n) n ≡ a → ok n ≡ b → ok k ≡ true
-    go ih true true p q = ⊎-elim (λ i. ap ok i ∙ q) (λ l. ih (eqb-true (before ok n) n p) l) (eq-or-lt-of-le (le-of-suc-le-suc h))
-    go ih true false p q = absurd (let z : before ok n ≡ suc n = sym (rw (p, q)) ∙ e in omega (arith, before-le ok n, z))
-    go ih false b p q = absurd (let z : before ok n ≡ suc n = sym (rw p) ∙ e in omega (arith, before-le ok n, z))
 
 pub row-first : (rows : List ℕ) (k i : ℕ) → i < 128 → getD (rowAt rows k) i 0 ≡ getD rows (k * 128 + i) 0
 row-first rows k i h = getD-take 128 (drop (k * 128) rows) i 0 h ∙ getD-drop (k * 128) rows i 0
@@ -80,31 +70,16 @@ lent-rows rows samples e = go (ℕ-discrete (length rows) 2176)
     go (yes h) = h
     go (no h) = absurd (let q : true ≡ false = sym (rw (ne-eqb (length rows) 2176 h)) ∙ e in let z : _≡_ {A = ℕ} 0 1 = cc in omega arith)
 
-raw-any : (rows : List ℕ) (k : ℕ) → k < 17 → isRaw rows k ≡ true → anyRaw rows ≡ true
-unfolding anyRaw
-raw-any rows k h e = lt-ltb (before (noRaw rows) 17) 17 (go (decLt (before (noRaw rows) 17) 17))
-  where
-    go : Dec (before (noRaw rows) 17 < 17) → before (noRaw rows) 17 < 17
-    go (yes l) = l
-    go (no l) = absurd (let q : true ≡ false = sym (before-passed (noRaw rows) 17 k (omega (arith, before-le (noRaw rows) 17)) h) ∙ ap not e in let z : _≡_ {A = ℕ} 0 1 = cc in omega arith)
-
 pub lent-raw : (rows : List ℕ) (samples : List ℤ) (k : ℕ) → lentFault rows samples ≡ false → k < 17 → isRaw rows k ≡ true → length samples ≡ 394752
 unfolding lentFault
-lent-raw rows samples k e h r = go (ℕ-discrete (length samples) 394752)
+lent-raw rows samples k e h r =
+    let s = and-true (eqb (length rows) 2176) (samplesLent rows (length samples)) (not-not (eqb (length rows) 2176 && samplesLent rows (length samples)) e) in
+    let w = lent-some rows (length samples) (s .1) in
+    ⊎-elim (λ l. l) (λ z. absurd (w .1 z k h (eqb-true (modeAt rows k) 7 r))) (w .0)
   where
-    none : (a b : Bool) → a ≡ false → not (b && false) ≡ true
-    none a true q = refl
-    none a false q = refl
-
-    off : (b : Bool) → (b && false) ≡ false
-    off true = refl
-    off false = refl
-
-    go : Dec (length samples ≡ 394752) → length samples ≡ 394752
-    go (yes l) = l
-    go (no l) =
-        absurd (let w : lentFault rows samples ≡ true = rw (ne-eqb (length samples) 394752 l, raw-any rows k h r, off (eqb (length samples) 0), off (eqb (length rows) 2176)) in
-        let q : true ≡ false = sym w ∙ e in let z : _≡_ {A = ℕ} 0 1 = cc in omega arith)
+    not-not : (b : Bool) → not b ≡ false → b ≡ true
+    not-not true q = refl
+    not-not false q = absurd (true≢false q)
 
 pub each-zeros : (n : ℕ) → Each fits32 (replicate n (pos 0))
 each-zeros zero = tt
@@ -112,7 +87,7 @@ each-zeros (suc n) = (omega arith, each-zeros n)
 
 module _ (rows : List ℕ) (samples : List ℤ) (a : Checked rows samples) (f : getD rows 126 0 ≡ 1 → ⊥) (k : ℕ) (h : k < 17) where
   pub entry-here : entryRow k (rowAt rows k) ≡ true
-  entry-here = entry-row rows k f (before-passed (λ i. rowAllowed i (rowAt rows i)) 17 k (fault-rows rows f ∙ a .row) h)
+  entry-here = entry-row rows k f (before-each (λ i. rowAllowed i (rowAt rows i)) 17 (le-of-eq (sym (fault-rows rows f ∙ a .row))) k h)
 
   pub mode-is : getD (rowAt rows k) 0 0 ≡ modeAt rows k
   mode-is = row-first rows k 0 (omega arith) ∙ ap (λ (i : ℕ). getD rows i 0) (native.Mathlib.Nat.add-zero (k * 128))
@@ -120,19 +95,19 @@ module _ (rows : List ℕ) (samples : List ℤ) (a : Checked rows samples) (f : 
   bits-here : Each (λ v. v < 65536) (rowAt rows k)
   bits-here = each-take (λ v. v < 65536) 128 (drop (k * 128) rows) (each-drop (λ v. v < 65536) (k * 128) rows (a .bits))
 
-  pub part-count : length (pick (isRaw rows k) (partOf samples k) []) ≡ sampleCount k (getD (rowAt rows k) 0 0)
+  pub part-count : length (pick (isRaw rows k) (part k samples) []) ≡ sampleCount k (getD (rowAt rows k) 0 0)
   part-count = go (ℕ-discrete (modeAt rows k) 7)
     where
-      go : Dec (modeAt rows k ≡ 7) → length (pick (isRaw rows k) (partOf samples k) []) ≡ sampleCount k (getD (rowAt rows k) 0 0)
+      go : Dec (modeAt rows k ≡ 7) → length (pick (isRaw rows k) (part k samples) []) ≡ sampleCount k (getD (rowAt rows k) 0 0)
       go (yes e) =
           let r : isRaw rows k ≡ true = eq-eqb (modeAt rows k) 7 e in
           let l : length samples ≡ 394752 = lent-raw rows samples k (a .lent) h r in
-          let n : length (partOf samples k) ≡ placesOf k = length-take-le (placesOf k) (drop (startOf k) samples) (omega (arith, length-drop (startOf k) samples, l, end-le k)) in
+          let n : length (part k samples) ≡ placesOf k = length-take-le (placesOf k) (drop (startOf k) samples) (omega (arith, length-drop (startOf k) samples, l, end-le k)) in
           let m : placesOf k ≡ sampleCount k (getD (rowAt rows k) 0 0) = sym (rw (eq-eqb (getD (rowAt rows k) 0 0) 7 (mode-is ∙ e))) in
-          ap (λ (b : Bool). length (pick b (partOf samples k) [])) r ∙ n ∙ m
+          ap (λ (b : Bool). length (pick b (part k samples) [])) r ∙ n ∙ m
       go (no e) =
           let m : 0 ≡ sampleCount k (getD (rowAt rows k) 0 0) = sym (rw (ne-eqb (getD (rowAt rows k) 0 0) 7 (λ q. e (sym mode-is ∙ q)))) in
-          ap (λ (b : Bool). length (pick b (partOf samples k) [])) (ne-eqb (modeAt rows k) 7 e) ∙ m
+          ap (λ (b : Bool). length (pick b (part k samples) [])) (ne-eqb (modeAt rows k) 7 e) ∙ m
 
   pub kind-ok : (part : List ℤ) → length part ≡ sampleCount k (getD (rowAt rows k) 0 0) → Each fits32 part → rowFormat k .Ok (rowAt rows k, part)
   kind-ok part n e = entry-ok k (rowAt rows k) part entry-here bits-here n e
@@ -143,7 +118,7 @@ module _ (rows : List ℕ) (samples : List ℤ) (a : Checked rows samples) (f : 
   pub slot-none : getD (rowAt rows k) 126 0 ≡ 0
   slot-none = row-good k (rowAt rows k, replicate (sampleCount k (getD (rowAt rows k) 0 0)) (pos 0)) zeros-ok .1
 
-  pub kind-ready : Ready k (rowAt rows k) (pick (isRaw rows k) (partOf samples k) [])
+  pub kind-ready : Ready k (rowAt rows k) (pick (isRaw rows k) (part k samples) [])
   kind-ready =
       let x : Ready k (rowAt rows k) (replicate (sampleCount k (getD (rowAt rows k) 0 0)) (pos 0)) = ready k (rowAt rows k) (replicate (sampleCount k (getD (rowAt rows k) 0 0)) (pos 0)) zeros-ok in
       record {
@@ -192,7 +167,7 @@ record-kinds rows samples e = rw (ne-eqb (getD rows 126 0) 1 e) (ap (λ (t : Lis
 row-part : (rows : List ℕ) (k : ℕ) → take (k * 128 + 128 - k * 128) (drop (k * 128) rows) ≡ rowAt rows k
 row-part rows k = let q : k * 128 + 128 - k * 128 ≡ 128 = omega arith in ap (λ (i : ℕ). take i (drop (k * 128) rows)) q
 
-sample-part : (samples : List ℤ) (k s n : ℕ) → s ≡ startOf k → n ≡ placesOf k → take (s + n - s) (drop s samples) ≡ partOf samples k
+sample-part : (samples : List ℤ) (k s n : ℕ) → s ≡ startOf k → n ≡ placesOf k → take (s + n - s) (drop s samples) ≡ part k samples
 sample-part samples k s n e f = let q : s + n - s ≡ placesOf k = omega (arith, f) in λ i. take (q i) (drop (e i) samples)
 
 module _ (rows : List ℕ) (samples : List ℤ) (a : Checked rows samples) where
@@ -204,21 +179,21 @@ module _ (rows : List ℕ) (samples : List ℤ) (a : Checked rows samples) where
 
   module _ (f : getD rows 126 0 ≡ 1 → ⊥) (k : ℕ) (h : k < 17) where
     text-raw : getD rows (k * 128) 0 ≡ 7 → (s n : ℕ) → s ≡ startOf k → n ≡ placesOf k
-        → _≡_ {A = Row} (take (k * 128 + 128 - k * 128) (drop (k * 128) rows), take (s + n - s) (drop s samples)) (rowAt rows k, pick (isRaw rows k) (partOf samples k) [])
+        → _≡_ {A = Row} (take (k * 128 + 128 - k * 128) (drop (k * 128) rows), take (s + n - s) (drop s samples)) (rowAt rows k, pick (isRaw rows k) (part k samples) [])
     text-raw e s n i j =
-        let r : partOf samples k ≡ pick (isRaw rows k) (partOf samples k) [] = sym (rw (eq-eqb (modeAt rows k) 7 e)) in
-        let w : take (s + n - s) (drop s samples) ≡ pick (isRaw rows k) (partOf samples k) [] = sample-part samples k s n i j ∙ r in
+        let r : part k samples ≡ pick (isRaw rows k) (part k samples) [] = sym (rw (eq-eqb (modeAt rows k) 7 e)) in
+        let w : take (s + n - s) (drop s samples) ≡ pick (isRaw rows k) (part k samples) [] = sample-part samples k s n i j ∙ r in
         λ z. (row-part rows k z, w z)
 
-    text-else : (getD rows (k * 128) 0 ≡ 7 → ⊥) → _≡_ {A = Row} (take (k * 128 + 128 - k * 128) (drop (k * 128) rows), []) (rowAt rows k, pick (isRaw rows k) (partOf samples k) [])
+    text-else : (getD rows (k * 128) 0 ≡ 7 → ⊥) → _≡_ {A = Row} (take (k * 128 + 128 - k * 128) (drop (k * 128) rows), []) (rowAt rows k, pick (isRaw rows k) (part k samples) [])
     text-else e =
-        let r : [] ≡ pick (isRaw rows k) (partOf samples k) [] = sym (rw (ne-eqb (modeAt rows k) 7 e)) in
+        let r : [] ≡ pick (isRaw rows k) (part k samples) [] = sym (rw (ne-eqb (modeAt rows k) 7 e)) in
         λ z. (row-part rows k z, r z)
 
-    ready-of : (x : Row) → x ≡ (rowAt rows k, pick (isRaw rows k) (partOf samples k) []) → Ready k (x .0) (x .1)
+    ready-of : (x : Row) → x ≡ (rowAt rows k, pick (isRaw rows k) (part k samples) []) → Ready k (x .0) (x .1)
     ready-of x e = subst⁻¹ (λ (y : Row). Ready k (y .0) (y .1)) e (kind-ready rows samples a f k h)
 
-    stored-of : (x : Row) → x ≡ (rowAt rows k, pick (isRaw rows k) (partOf samples k) []) → (o o' : List ℕ) (at r m : ℕ) → Stored (rowFormat k .write x) o o' at r m → Stored (kindText rows samples k) o o' at r m
+    stored-of : (x : Row) → x ≡ (rowAt rows k, pick (isRaw rows k) (part k samples) []) → (o o' : List ℕ) (at r m : ℕ) → Stored (rowFormat k .write x) o o' at r m → Stored (kindText rows samples k) o o' at r m
     stored-of x e o o' at r m g = subst (λ (y : Row). Stored (rowFormat k .write y) o o' at r m) e g
 
     pub kind-mode : getD rows (k * 128) 0 < 8
@@ -247,10 +222,10 @@ module _ (rows : List ℕ) (samples : List ℤ) (a : Checked rows samples) where
           go (yes e) = omega (arith, start-raw e .0, start-raw e .1, end-le k)
           go (no e) = omega (arith, start-else e .0, start-else e .1)
 
-      part-is : _≡_ {A = Row} (take (k * 128 + 128 - k * 128) (drop (k * 128) rows), take (s + n - s) (drop s samples)) (rowAt rows k, pick (isRaw rows k) (partOf samples k) [])
+      part-is : _≡_ {A = Row} (take (k * 128 + 128 - k * 128) (drop (k * 128) rows), take (s + n - s) (drop s samples)) (rowAt rows k, pick (isRaw rows k) (part k samples) [])
       part-is = go (ℕ-discrete (getD rows (k * 128) 0) 7)
         where
-          go : Dec (getD rows (k * 128) 0 ≡ 7) → _≡_ {A = Row} (take (k * 128 + 128 - k * 128) (drop (k * 128) rows), take (s + n - s) (drop s samples)) (rowAt rows k, pick (isRaw rows k) (partOf samples k) [])
+          go : Dec (getD rows (k * 128) 0 ≡ 7) → _≡_ {A = Row} (take (k * 128 + 128 - k * 128) (drop (k * 128) rows), take (s + n - s) (drop s samples)) (rowAt rows k, pick (isRaw rows k) (part k samples) [])
           go (yes e) = text-raw e s n (start-raw e .0) (start-raw e .1)
           go (no e) =
               let z : s + n - s ≡ 0 = omega (arith, start-else e .1) in
@@ -346,21 +321,9 @@ module _ (rows : List ℕ) (samples : List ℤ) where
   unfolding lentFault
   lent-long h = rw (ne-eqb (length rows) 2176 h)
 
-  pub lent-full : length rows ≡ 2176 → length samples ≡ 394752 → false ≡ lentFault rows samples
+  pub lent-else : length rows ≡ 2176 → (b : Bool) → b ≡ samplesLent rows (length samples) → not b ≡ lentFault rows samples
   unfolding lentFault
-  lent-full h k = rw (eq-eqb (length rows) 2176 h, eq-eqb (length samples) 394752 k)
-
-  pub lent-part : length rows ≡ 2176 → (length samples ≡ 394752 → ⊥) → (length samples ≡ 0 → ⊥) → true ≡ lentFault rows samples
-  unfolding lentFault
-  lent-part h k l = rw (eq-eqb (length rows) 2176 h, ne-eqb (length samples) 394752 k, ne-eqb (length samples) 0 l)
-
-  pub lent-none : length rows ≡ 2176 → (length samples ≡ 394752 → ⊥) → length samples ≡ 0 → (b : Bool) → b ≡ anyRaw rows → b ≡ lentFault rows samples
-  unfolding lentFault
-  lent-none h k l b e = rw (eq-eqb (length rows) 2176 h, ne-eqb (length samples) 394752 k, eq-eqb (length samples) 0 l, sym e) (go b)
-    where
-      go : (v : Bool) → v ≡ not (not v)
-      go true = refl
-      go false = refl
+  lent-else h b e = rw (eq-eqb (length rows) 2176 h, sym e)
 
 -- ---- write_record
 

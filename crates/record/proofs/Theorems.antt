@@ -13,7 +13,9 @@ use Rattle.params.specs.Allowed.{modeAt, rowFault}
 use Rattle.record.specs.Format.{Format, pick, shared, Longest, Reading, done, text, whole}
 use Rattle.record.specs.Text.{bytes}
 use Rattle.record.specs.Flat.{Flat, flatFormat}
-use Rattle.record.specs.Description.{isRaw, anyRaw, lentFault, partOf, rawParts, describe, recordOf, Allowed, Same}
+use Rattle.transform.specs.Kinds.{part}
+use Rattle.params.specs.Raw.{isRaw, anyRaw}
+use Rattle.record.specs.Description.{lentFault, rawParts, describe, recordOf, Allowed, Same}
 use Rattle.record.specs.declared.reader.Taken.the-variants as takes
 use Rattle.record.specs.declared.writer.Written.the-variants as writes
 use Rattle.record.specs.Replies.{readLent, readIs, readAnswer, rowsAfter, writeAnswer}
@@ -24,7 +26,7 @@ use Rattle.record.proofs.AllowedOk.{checked-of, allowed-ok}
 
 -- ---- the same description, and the same parts by kind
 
-parts-same : (rows : List ℕ) (s s' : List ℤ) (k n : ℕ) → rawParts rows s k n ≡ rawParts rows s' k n → (i : ℕ) → k ≤ i → i < k + n → isRaw rows i ≡ true → partOf s i ≡ partOf s' i
+parts-same : (rows : List ℕ) (s s' : List ℤ) (k n : ℕ) → rawParts rows s k n ≡ rawParts rows s' k n → (i : ℕ) → k ≤ i → i < k + n → isRaw rows i ≡ true → part i s ≡ part i s'
 parts-same rows s s' k zero e i h l r = absurd (omega arith)
 parts-same rows s s' k (suc n) e i h l r = go (ℕ-discrete i k) (λ m. parts-same rows s s' (k + 1) n (tails e) i m (omega arith) r)
   where
@@ -39,18 +41,18 @@ parts-same rows s s' k (suc n) e i h l r = go (ℕ-discrete i k) (λ m. parts-sa
     tails : rawParts rows s k (suc n) ≡ rawParts rows s' k (suc n) → rawParts rows s (k + 1) n ≡ rawParts rows s' (k + 1) n
     tails q = ap tail q
 
-    here : isRaw rows k ≡ true → rawParts rows s k (suc n) ≡ rawParts rows s' k (suc n) → partOf s k ≡ partOf s' k
-    here q p = sym (ap (λ (b : Bool). pick b (partOf s k) []) q) ∙ ap head p ∙ ap (λ (b : Bool). pick b (partOf s' k) []) q
+    here : isRaw rows k ≡ true → rawParts rows s k (suc n) ≡ rawParts rows s' k (suc n) → part k s ≡ part k s'
+    here q p = sym (ap (λ (b : Bool). pick b (part k s) []) q) ∙ ap head p ∙ ap (λ (b : Bool). pick b (part k s') []) q
 
-    go : Dec (i ≡ k) → (k + 1 ≤ i → partOf s i ≡ partOf s' i) → partOf s i ≡ partOf s' i
-    go (yes q) ih = ap (partOf s) q ∙ here (ap (isRaw rows) (sym q) ∙ r) e ∙ ap (partOf s') (sym q)
+    go : Dec (i ≡ k) → (k + 1 ≤ i → part i s ≡ part i s') → part i s ≡ part i s'
+    go (yes q) ih = ap (λ (k : ℕ). part k s) q ∙ here (ap (isRaw rows) (sym q) ∙ r) e ∙ ap (λ (k : ℕ). part k s') (sym q)
     go (no q) ih = ih (omega arith)
 
-same-parts : (rows : List ℕ) (s s' : List ℤ) → ((i : ℕ) → i < 17 → isRaw rows i ≡ true → partOf s i ≡ partOf s' i) → (k n : ℕ) → k + n ≤ 17 → rawParts rows s k n ≡ rawParts rows s' k n
+same-parts : (rows : List ℕ) (s s' : List ℤ) → ((i : ℕ) → i < 17 → isRaw rows i ≡ true → part i s ≡ part i s') → (k n : ℕ) → k + n ≤ 17 → rawParts rows s k n ≡ rawParts rows s' k n
 same-parts rows s s' f k zero h = refl
 same-parts rows s s' f k (suc n) h = (λ t. here (isRaw rows k) refl t ∷ same-parts rows s s' f (k + 1) n (omega arith) t)
   where
-    here : (b : Bool) → isRaw rows k ≡ b → pick b (partOf s k) [] ≡ pick b (partOf s' k) []
+    here : (b : Bool) → isRaw rows k ≡ b → pick b (part k s) [] ≡ pick b (part k s') []
     here true q = f k (omega arith) q
     here false q = refl
 
@@ -63,7 +65,7 @@ described r s r' s' a e = record { numbers = ap (λ (f : Flat). f .0) e; raws = 
     move : describe r s ≡ describe r s'
     move = e ∙ ap (λ (x : List ℕ). describe x s') (sym n)
 
-    go : (k : ℕ) → k < 17 → isRaw r k ≡ true → Dec (getD r 126 0 ≡ 1) → partOf s k ≡ partOf s' k
+    go : (k : ℕ) → k < 17 → isRaw r k ≡ true → Dec (getD r 126 0 ≡ 1) → part k s ≡ part k s'
     go k h q (yes d) = absurd (omega (arith, mode-zero r s (checked-of r s a) d k h, eqb-true (modeAt r k) 7 q))
     go k h q (no d) =
         let m : rawParts r s 0 17 ≡ rawParts r s' 0 17 = rw (ne-eqb (getD r 126 0) 1 d) at (ap (λ (f : Flat). f .1) move) in

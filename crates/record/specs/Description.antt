@@ -1,38 +1,25 @@
 -- A description: 17 rows of 128 numbers and an arena of samples. Its record, and when two are the same. Assumes nothing.
 use mathlib.Core.Path.{_≡_}
 use mathlib.Core.List.{List, [], _∷_, _++_}
-use mathlib.Core.Bool.{Bool, true, false, not, _&&_, _||_}
+use mathlib.Core.Bool.{Bool, true, false, not, _&&_}
 use Prim.Native.Nat.{ℕ, zero, suc, _+_, _<_}
 use lib.IntN.{ℤ, pos, negsuc}
-use lib.ListN.{length, getD, take, drop}
-use lib.Dec.{eqb, ltb}
-use Rattle.transform.specs.Kinds.{placesOf, startOf}
-use Rattle.transform.specs.First.{before}
-use Rattle.params.specs.Allowed.{modeAt, rowFault}
+use lib.ListN.{length, getD}
+use lib.Dec.{eqb}
+use Rattle.transform.specs.Kinds.{startOf, part}
+use Rattle.params.specs.Allowed.{rowFault}
+use Rattle.params.specs.Raw.{isRaw, samplesLent}
 use Rattle.record.specs.Format.{Format, pick}
 use Rattle.record.specs.Flat.{Flat, flatFormat}
 
--- whether a kind is raw, by slot 0 of its row
-abbrev pub isRaw : List ℕ → ℕ → Bool
-isRaw rows kind = eqb (modeAt rows kind) 7
-
--- whether some kind is raw
-unfoldable pub anyRaw : List ℕ → Bool
-anyRaw rows = ltb (before (λ kind. not (isRaw rows kind)) 17) 17
-
 -- lengths other than document 01 names: rows other than 2,176; samples other than 394,752, or none where no row is raw
 unfoldable pub lentFault : List ℕ → List ℤ → Bool
-unfolding anyRaw
-lentFault rows samples = not (eqb (length rows) 2176 && (eqb (length samples) 394752 || (eqb (length samples) 0 && not (anyRaw rows))))
-
--- a kind's part of an arena
-abbrev pub partOf : List ℤ → ℕ → List ℤ
-partOf samples kind = take (placesOf kind) (drop (startOf kind) samples)
+lentFault rows samples = not (eqb (length rows) 2176 && samplesLent rows (length samples))
 
 -- the samples of n kinds from one on: of a raw kind its part, of another none
 abbrev pub rawParts : List ℕ → List ℤ → ℕ → ℕ → List (List ℤ)
 rawParts rows samples kind zero = []
-rawParts rows samples kind (suc n) = pick (isRaw rows kind) (partOf samples kind) [] ∷ rawParts rows samples (kind + 1) n
+rawParts rows samples kind (suc n) = pick (isRaw rows kind) (part kind samples) [] ∷ rawParts rows samples (kind + 1) n
 
 -- the numbers and the samples by kind; a set that is all default has no samples to speak of
 abbrev pub describe : List ℕ → List ℤ → Flat
@@ -63,7 +50,7 @@ pub record Allowed (rows : List ℕ) (samples : List ℤ) : Type 0 where
 -- the same description: the same rows, and the same samples of the raw kinds
 pub record Same (rows : List ℕ) (samples : List ℤ) (rows' : List ℕ) (samples' : List ℤ) : Type 0 where
   pub numbers : rows ≡ rows'
-  pub raws : (kind : ℕ) → kind < 17 → isRaw rows kind ≡ true → partOf samples kind ≡ partOf samples' kind
+  pub raws : (kind : ℕ) → kind < 17 → isRaw rows kind ≡ true → part kind samples ≡ part kind samples'
 
 -- each kind's samples put in its part of an arena, from one kind on; all else stays
 abbrev pub storeParts : ℕ → List (List ℤ) → List ℤ → List ℤ

@@ -8,7 +8,8 @@ use lib.Dec.{eqb, ltb}
 use Rattle.params.specs.Allowed.{rowFault}
 use Rattle.record.specs.Format.{pick, Reading, done, text, whole}
 use Rattle.record.specs.Flat.{Flat, flatFormat}
-use Rattle.record.specs.Description.{anyRaw, lentFault, recordOf, storeParts}
+use Rattle.params.specs.Raw.{anyRaw}
+use Rattle.record.specs.Description.{lentFault, recordOf, storeParts}
 use Rattle.record.specs.declared.reader.Taken as taken
 use Rattle.record.specs.declared.reader.Taken.the-variants as takes
 use Rattle.record.specs.declared.writer.Written as written

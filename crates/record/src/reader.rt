@@ -15,7 +15,7 @@ ghost use Rattle.params.specs.Header.{allDefault};
 ghost use Rattle.record.specs.Format.{got, whole};
 ghost use Rattle.record.specs.Rows.{Row, allKinds};
 ghost use Rattle.record.specs.Flat.{Flat, flatFormat};
-ghost use Rattle.record.specs.Description.{anyRaw};
+ghost use Rattle.params.specs.Raw.{anyRaw};
 ghost use Rattle.record.specs.Replies.{readLent, readIs, readAnswer, rowsAfter, samplesAfter};
 ghost use Rattle.record.specs.Answers.{readAt, seen, SetStored, FlatStored};
 
@@ -76,21 +76,6 @@ fn walk(s: &[u8], rows: &mut [u16], arena: &mut [i32]) -> Scan
     }
 }
 
-// Whether some kind is raw.
-pub(crate) fn any_raw(rows: &[u16]) -> bool
-    requires { ⌜ length (now rows) ≡ 2176 ⌝ }
-    ensures { λ r. ⌜ r ≡ anyRaw (now (rows .entry)) ⌝ }
-{
-    let mut kind: usize = 0;
-    while kind < 17 {
-        if rows[kind * 128] == 7 {
-            return true;
-        }
-        kind += 1;
-    }
-    false
-}
-
 // Whether a length is other than named.
 fn is_lent(n: usize, l: usize) -> bool
     ensures { λ r. ⌜ r ≡ readLent n l ⌝ }
@@ -106,10 +91,9 @@ fn is_lent(n: usize, l: usize) -> bool
 
 // Whether there are samples to store and no room for them.
 fn no_room(rows: &[u16], l: usize) -> bool
-    requires { ⌜ length (now rows) ≡ 2176 ⌝ }
     ensures { λ r. ⌜ r ≡ (anyRaw (now (rows .entry)) && eqb l 0) ⌝ }
 {
-    if any_raw(rows) {
+    if params::any_raw(rows) {
         return l == 0;
     }
     false

@@ -12,7 +12,6 @@ use crate::put::put_bytes;
 use crate::put::put_counts;
 use crate::put::put_halves;
 use crate::put::put_samples;
-use crate::reader::any_raw;
 use params::RowCheck;
 ghost use mathlib.Core.Path.{_≡_};
 ghost use Prim.Native.Nat.{_+_, _*_, _<_};
@@ -169,13 +168,7 @@ fn is_lent(rows: &[u16], samples: &[i32]) -> bool
     if rows.len() != 2176 {
         return true;
     }
-    if samples.len() == 394752 {
-        return false;
-    }
-    if samples.len() != 0 {
-        return true;
-    }
-    any_raw(rows)
+    !params::samples_lent(rows, samples.len())
 }
 
 // Writes the record of a description: all of it, or nothing.

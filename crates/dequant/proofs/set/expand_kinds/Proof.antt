@@ -8,13 +8,13 @@ use borrow.Author.Needs.{needs}
 use borrow.Author.Tests.{not-true, not-false}
 use lib.ListN.{length, take, length-replicate}
 use lib.Ieee.{Float}
-use Rattle.transform.specs.Kinds.{startOf}
+use Rattle.transform.specs.Kinds.{startOf, part}
 use Rattle.params.specs.Allowed.{rowAt}
 use Rattle.matrix.specs.Expanded.{isDone, leaves}
 use Rattle.matrix.specs.declared.Expanded.{Expanded}
 use Rattle.matrix.specs.declared.Expanded.the-variants.{Done}
 use Rattle.matrix.proofs.Replies.{done-is}
-use Rattle.dequant.specs.Set.{part, straightOf, transposedOf, arenaOf, kindsAnswer}
+use Rattle.dequant.specs.Set.{straightOf, transposedOf, arenaOf, kindsAnswer}
 use Rattle.dequant.specs.Views.{Fit, laid}
 use Rattle.dequant.proofs.Kindwise.{arena-none, straight-length, transposed-length, turn-laid, all-laid, turn-answer, stops-answer, refusal-leaves}
 use Rattle.dequant.proofs.set.expand_kinds.Statement.{statement}

@@ -5,7 +5,6 @@ use Rattle.record.proofs.reader.no_room.Statement.{statement}
 use Rattle.record.proofs.reader.no_room.Tie as tie
 use Rattle.record.proofs.reader.no_room.Reads as reads
 use Rattle.record.proofs.reader.no_room.Lts as lts
-use Rattle.record.proofs.reader.any_raw.Reads as any-raw-reads
 
 any-raw-requires : tie.Need-any-raw-requires
 any-raw-requires c κs = search needs
