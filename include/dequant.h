@@ -25,8 +25,8 @@ enum dequant_reply {
     DEQUANT_MODE = 3,    /* kind, bit: mode not allowed for the kind; as SHORT */
     DEQUANT_FLOAT = 4,   /* kind, bit: a number with exponent 31; as SHORT */
     DEQUANT_RAW = 5,     /* kind, next bit: decode the raw samples from there, then resume at the next kind */
-    DEQUANT_ROW_BAD = 6, /* kind: a row that no reading writes; nothing changed */
-    DEQUANT_BAND = 7,    /* kind, channel, band: a band <= 0 or infinite; outputs all zero */
+    DEQUANT_ROW_BAD = 6, /* kind: a row that no reading writes, or 0 with slot 126 set while some mode is not 0; nothing changed */
+    DEQUANT_BAND = 7,    /* kind, channel, band: a band after the first <= 0 or infinite; outputs all zero */
     DEQUANT_WEIGHT = 8,  /* kind, channel, place: a weight >= 100,000,000 or <= 0 or NaN; outputs all zero */
     DEQUANT_ROOM = 9,    /* length needed; nothing changed */
     DEQUANT_TEXT = 10,   /* longest beginning shared with any record; nothing changed */

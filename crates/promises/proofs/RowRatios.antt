@@ -1,4 +1,4 @@
--- Document 01: "every b/a that a band list or mode 5's bands form is normal, or zero over zero", of rows: read ones, with the numbers scaled as they are when read, and defaults. Assumes nothing.
+-- That every b/a is normal, as document 01 says, of rows: read ones, with the numbers scaled as they are when read, and defaults; where p5 is zero it is 0/0. Assumes nothing.
 use mathlib.Core.Path.{_≡_, refl, sym, ap, _∙_, subst}
 use mathlib.Core.Logic.{_⊎_, inl, inr, ⊎-elim}
 use mathlib.Core.Bool.{Bool, true, false, cond, true≢false}
