@@ -3,9 +3,9 @@ use bitstream::Bits;
 ghost use mathlib.Core.Path.{_≡_};
 ghost use Prim.Native.Nat.{_+_, _-_, _*_, _≤_, _<_};
 ghost use lib.ListN.{length};
-ghost use Rattle.params.specs.Row.{on, number, numbers, bandList, bandLists, allowed, entry, fixed, lists};
+ghost use Rattle.params.specs.Row.{on, number, numbers, bandList, bandLists, allowed, entry, lists};
 ghost use Rattle.params.specs.Steps.{hand, slotOf};
-ghost use Rattle.params.specs.Header.{gives, putRow, kindIs, kinds, after, allDefault, readHeader};
+ghost use Rattle.params.specs.Header.{gives, putRow, kindIs, kinds, allDefault, readHeader};
 
 pub enum Reading {
     Done { next: u64 },

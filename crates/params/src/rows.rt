@@ -8,7 +8,7 @@ ghost use Rattle.transform.specs.First.{before};
 ghost use Prim.Native.Nat.{_+_, _*_, _≤_, _<_};
 ghost use lib.ListN.{length};
 ghost use Rattle.params.specs.Row.{fixed};
-ghost use Rattle.params.specs.Allowed.{allFine, allZero, countOk, partsOk, entryRow, flagRow, rowAllowed, rowAt, modeAt, flagFault, rowFault, checkRows};
+ghost use Rattle.params.specs.Allowed.{allFine, allZero, countOk, partsOk, entryRow, flagRow, rowAllowed, rowAt, modeAt, rowFault, checkRows};
 
 fn all_fine(part: &[u16]) -> bool
     ensures { λ r. ⌜ r ≡ allFine (now (part .entry)) ⌝ }

@@ -11,7 +11,7 @@ use crate::rows::show_rows;
 use libc::STDIN_FILENO;
 use record::Taken;
 use record::Written;
-ghost use Prim.Native.Nat.{_≤_, _<_};
+ghost use Prim.Native.Nat.{_<_};
 
 mod input;
 mod rows;

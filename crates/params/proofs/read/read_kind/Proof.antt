@@ -1,5 +1,5 @@
 -- `params::read::read_kind` meets its contract: by the step that `read_entry` came to. Assumes nothing.
-use mathlib.Core.Path.{_≡_, sym, ap, _∙_}
+use mathlib.Core.Path.{sym, ap, _∙_}
 use Rattle.params.specs.declared.read.Step.{Step}
 use Rattle.params.specs.Steps.{hand}
 use Rattle.params.specs.Header.{kindIs}

@@ -1,5 +1,5 @@
 -- `params::read::read_list` meets its contract: a count of four bits is below 16, so the list has 48 numbers at most. Assumes nothing.
-use mathlib.Core.Path.{_≡_, refl, sym, ap, _∙_}
+use mathlib.Core.Path.{sym, ap, _∙_}
 use native.Mathlib.Omega.{arith}
 use Rattle.bitstream.proofs.Laws.{value-lt}
 use Rattle.params.specs.declared.read.Step.{Step}

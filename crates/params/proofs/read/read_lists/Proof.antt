@@ -1,10 +1,10 @@
 -- `params::read::read_lists` meets its contract. The loop's invariant is as that of `read_numbers`. Assumes nothing.
-use mathlib.Core.Path.{_≡_, refl, sym, ap, _∙_}
+use mathlib.Core.Path.{_≡_, sym, _∙_}
 use Prim.Native.Nat.{_≤_, _+_, _-_, _*_}
 use native.Mathlib.Omega.{arith}
 use native.Mathlib.Nat.{sub-zero}
 use borrow.Author.Needs.{needs}
-use Rattle.params.specs.Row.{bandList, bandLists}
+use Rattle.params.specs.Row.{bandLists}
 use Rattle.params.specs.Steps.{hand, slotOf}
 use Rattle.params.proofs.RowLaws.{lists-step, lists-none}
 use Rattle.params.proofs.read.read_lists.Statement.{statement}

@@ -1,5 +1,5 @@
 -- `params::read::read_numbers` meets its contract. The loop's invariant: what is left to read, from the step in hand, comes to what was to be read. Assumes nothing.
-use mathlib.Core.Path.{_≡_, refl, sym, ap, _∙_}
+use mathlib.Core.Path.{_≡_, sym, ap, _∙_}
 use Prim.Native.Nat.{_≤_, _+_, _-_}
 use native.Mathlib.Omega.{arith}
 use borrow.Author.Needs.{needs}

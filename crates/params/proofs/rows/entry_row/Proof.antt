@@ -1,5 +1,5 @@
 -- `params::rows::entry_row` meets its contract: the row's parts are what `partsOk` tests. Assumes nothing.
-use mathlib.Core.Path.{_≡_, sym, ap, _∙_}
+use mathlib.Core.Path.{_∙_}
 use Rattle.params.proofs.AllowedLaws.{row-no, row-go}
 use borrow.Author.Needs.{needs}
 use Rattle.params.proofs.rows.entry_row.Statement.{statement}
