@@ -8,7 +8,7 @@ use native.Mathlib.Nat.{add-zero, zero-add, add-suc, suc-add, le-of-eq, le-of-su
 use native.Mathlib.Numerals.{add-one}
 use native.Mathlib.Omega.{arith}
 use lib.ListN.{length, getD, take, drop, set, replicate, length-append, length-map, length-replicate, getD-replicate, List·getD-map, List·getD-append, drop-of-length-le}
-use lib.Seq.{sets, sets-eq, ext-getD, getD-append-add, getD-take, getD-drop, length-take-le, getD-append-seam}
+use lib.Seq.{sets, sets-eq, ext-getD, getD-append-add, getD-drop, length-take-le, getD-append-seam}
 use Rattle.bands.specs.Table.{tab}
 
 module _ {A : Type 0} where
@@ -66,20 +66,7 @@ module _ {A : Type 0} where
         ap (λ (r : List A). getD r i d) (sets-eq vs l at fit)
         ∙ List·getD-append (take at l ++ vs) (drop (at + length vs) l) d i (subst (λ (k : ℕ). i < k) (sym head-length) h)
 
-    -- in the part
-    pub sets-in : (j : ℕ) (d : A) → j < length vs → getD (sets l at vs) (at + j) d ≡ getD vs j d
-    sets-in j d h =
-        in-head (at + j) d (omega arith)
-        ∙ ap (λ (k : ℕ). getD (take at l ++ vs) (k + j) d) (sym start-length)
-        ∙ getD-append-add (take at l) vs j d
-
-    -- before it, and after it
-    pub sets-before : (i : ℕ) (d : A) → i < at → getD (sets l at vs) i d ≡ getD l i d
-    sets-before i d h =
-        in-head i d (omega arith)
-        ∙ List·getD-append (take at l) vs d i (subst (λ (k : ℕ). i < k) (sym start-length) h)
-        ∙ getD-take at l i d h
-
+    -- after the part
     pub sets-after : (j : ℕ) (d : A) → getD (sets l at vs) (at + length vs + j) d ≡ getD l (at + length vs + j) d
     sets-after j d =
         ap (λ (r : List A). getD r (at + length vs + j) d) (sets-eq vs l at fit)

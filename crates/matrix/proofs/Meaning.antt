@@ -7,7 +7,7 @@ use native.Mathlib.Omega.{arith}
 use borrow.Author.Tests.{ne-eqb, lt-leb}
 use lib.Dec.{T, eqb, leb, leb→le, eqb→eq}
 use lib.IntN.{ℤ, pos}
-use lib.ListN.{length, getD}
+use lib.ListN.{getD}
 use lib.Ieee.{nan, binary32, div}
 use Rattle.transform.specs.Kinds.{widthOf, heightOf, areaOf, placesOf}
 use Rattle.transform.proofs.Laws.{at}
@@ -44,9 +44,6 @@ meaning row zs k h =
 or-right : (a b : Bool) → T (a || b) → a ≡ false → T b
 or-right true b t e = absurd (true≢false e)
 or-right false b t e = t
-
-implied : (m n x y : ℕ) → T (leb m n || leb x y) → n < m → x ≤ y
-implied m n x y t h = leb→le x y (or-right (leb m n) (leb x y) t (lt-leb m n h))
 
 equal : (m n x y : ℕ) → T (leb m n || eqb x y) → n < m → x ≡ y
 equal m n x y t h = eqb→eq x y (or-right (leb m n) (eqb x y) t (lt-leb m n h))

@@ -1,9 +1,9 @@
 -- `show_set::bits` is safe: it asks no bits of a NaN. Assumes nothing.
-use mathlib.Core.Path.{_≡_, sym}
-use mathlib.Core.Bool.{Bool, true, false, not, true≢false}
+use mathlib.Core.Path.{_≡_}
+use mathlib.Core.Bool.{false, not, true≢false}
 use borrow.Author.Needs.{needs}
 use lib.Dec.{T}
-use lib.Ieee.{Float, nan, inf, fin, eq, ne, isNan}
+use lib.Ieee.{Float, nan, inf, fin, ne, isNan}
 use Rattle.show_set.proofs.bits.Statement.{statement}
 use Rattle.show_set.proofs.bits.Tie as tie
 

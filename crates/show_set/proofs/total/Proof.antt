@@ -1,6 +1,6 @@
 -- `show_set::total` is safe and ends. Assumes nothing.
 use lib.ListN.{length}
-use Prim.Native.Nat.{_≤_, _-_}
+use Prim.Native.Nat.{_≤_}
 use borrow.Author.Needs.{needs}
 use Rattle.show_set.proofs.total.Statement.{statement}
 use Rattle.show_set.proofs.total.Tie as tie
