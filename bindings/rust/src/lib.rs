@@ -8,6 +8,10 @@
 //! ```
 //! let mut rows = [0u16; dequant::ROWS];
 //! assert_eq!(dequant::read_header(&[0x01], 0, 0, &mut rows), dequant::Reply::Done(1));
+//! let (mut straight, mut transposed) = (vec![0f32; dequant::ARENA], vec![0f32; dequant::ARENA]);
+//! assert_eq!(dequant::expand(&rows, &[], &mut straight, &mut transposed), dequant::Reply::Done(0));
+//! let shown = dequant::lookup(&straight, &transposed, 6, 0, dequant::Order::Transposed);
+//! assert_eq!(shown.len(), 16 * 8);
 //! ```
 #![warn(missing_docs)]
 
