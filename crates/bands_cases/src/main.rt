@@ -157,21 +157,7 @@ fn corners() {
     freqs(&zero);
     let short = [1.0f32, 3.25, -0.75];
     freqs(&short);
-    let long = [
-        1.0f32,
-        1.0,
-        1.0,
-        1.0,
-        1.0,
-        1.0,
-        1.0,
-        1.0,
-        1.0,
-        1.0,
-        1.0,
-        1.0,
-        1.0,
-    ];
+    let long = [1.0f32; 13];
     freqs(&long);
 }
 
