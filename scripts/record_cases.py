@@ -151,7 +151,7 @@ def case(v, name, at):
     name_at = text_at + len(text)
     head = [
         name_at, len(name), CALLS[v["call"]], int(v.get("samples_len", whole)), base % 2**32, step, modulus,
-        int(v.get("rows_len", ROWS)), rows_at, len(rows) // 2, text_at, len(text), int(v.get("room", 0)),
+        int(v.get("rows_len", ROWS)), rows_at, len(rows), text_at, len(text), int(v.get("room", 0)),
     ]
     assert len(head) == words
     return struct.pack("<%dI" % len(head + rows), *(head + rows)) + text + name.encode()

@@ -40,3 +40,24 @@ pub fn first_mut_f32<'a>(s: &'a mut [f32], n: usize) -> &'a mut [f32] {
     }
     &mut s[0..n]
 }
+
+pub fn first_mut_u8<'a>(s: &'a mut [u8], n: usize) -> &'a mut [u8] {
+    if s.len() < n {
+        return &mut s[..0];
+    }
+    &mut s[0..n]
+}
+
+pub fn first_mut_u16<'a>(s: &'a mut [u16], n: usize) -> &'a mut [u16] {
+    if s.len() < n {
+        return &mut s[..0];
+    }
+    &mut s[0..n]
+}
+
+pub fn first_mut_i32<'a>(s: &'a mut [i32], n: usize) -> &'a mut [i32] {
+    if s.len() < n {
+        return &mut s[..0];
+    }
+    &mut s[0..n]
+}

@@ -1,20 +1,12 @@
 // Replays cases of `write_record`, `read_record` and `quantlist` from standard input and writes what each gives; then writes and
 // reads a set whose kinds are all raw. All numbers of the input are words: how many cases there are, where each begins, and for a
 // case: where its name is and its length, the call, how many samples, their rule (base, step, modulus), how many numbers of rows,
-// where those that are not 0 are listed and how many, where its text or header is and its length, and the buffer's length.
-use crate::input::bytes;
-use crate::input::field;
-use crate::input::fill_rows;
-use crate::input::least;
-use crate::input::rest;
-use crate::rows::show_rows;
+// where those that are not 0 are listed and in how many words, where its text or header is and its length, and the buffer's length.
+use input::field;
 use libc::STDIN_FILENO;
 use record::Taken;
 use record::Written;
-ghost use Prim.Native.Nat.{_<_};
 
-mod input;
-mod rows;
 mod samples;
 mod text;
 
@@ -28,8 +20,8 @@ fn reply(number: u64, value: usize) {
 
 // A record that was written, and whether the bytes past it stay.
 fn show_record_of(buffer: &[u8], length: usize) {
-    show::text(show_record::first(buffer, length));
-    if text::untouched(rest(buffer, length)) {
+    show::text(input::first(buffer, length));
+    if text::untouched(input::rest(buffer, length)) {
         show::text(b"past=unchanged\n");
     }
 }
@@ -94,78 +86,76 @@ fn show_samples(part: &[i32]) {
 
 // Reads into rows of abcd and samples of 77.
 fn read(source: &[u8], rows: &mut [u16], part: &mut [i32]) {
-    samples::fill(part, 77, 0, 0);
+    input::fill_samples(part, 77, 0, 0);
     let r = record::read_record(source, rows, part);
     show_taken(r);
-    show_rows(rows);
+    show::rows(rows);
     show_samples(part);
 }
 
-fn write_cut(case: &[u8], rows: &[u16], part: &[i32], buffer: &mut [u8]) {
-    let n = field(case, 7);
-    let l = field(case, 3);
-    let room = field(case, 12);
-    if n <= rows.len() {
-        if l <= part.len() {
-            if room <= buffer.len() {
-                write(&rows[0..n], &part[0..l], &mut buffer[0..room]);
-            }
-        }
-    }
-}
-
-fn write_case(input: &[u8], case: &[u8], part: &mut [i32], buffer: &mut [u8]) {
+fn rows_of(s: &[u8], at: usize) -> [u16; 2304] {
     let mut rows = [0u16; 2304];
-    fill_rows(rest(input, field(case, 8)), field(case, 9), &mut rows);
-    samples::fill(part, field(case, 4), field(case, 5), field(case, 6));
-    write_cut(case, &rows, part, buffer);
+    input::fill_rows(input::listed(s, at, 8), &mut rows);
+    rows
 }
 
-fn read_cut(case: &[u8], source: &[u8], rows: &mut [u16], part: &mut [i32]) {
-    let n = field(case, 7);
-    let l = field(case, 3);
-    if n <= rows.len() {
-        if l <= part.len() {
-            read(source, &mut rows[0..n], &mut part[0..l]);
-        }
-    }
+fn write_rows(s: &[u8], at: usize, part: &[i32], buffer: &mut [u8]) {
+    let rows = rows_of(s, at);
+    write(
+        input::first_u16(&rows, field(s, at, 7)),
+        part,
+        input::first_mut_u8(buffer, field(s, at, 12)),
+    );
 }
 
-fn read_case(case: &[u8], source: &[u8], part: &mut [i32]) {
+fn fill(part: &mut [i32], s: &[u8], at: usize) {
+    let base = input::field_bits(s, at, 4);
+    let step = input::field_bits(s, at, 5);
+    let modulus = input::field_bits(s, at, 6);
+    input::fill_samples(part, base, step, modulus);
+}
+
+fn write_case(s: &[u8], at: usize, part: &mut [i32], buffer: &mut [u8]) {
+    fill(part, s, at);
+    write_rows(s, at, input::first_i32(part, field(s, at, 3)), buffer);
+}
+
+fn read_case(s: &[u8], at: usize, part: &mut [i32]) {
     let mut rows = [0xabcdu16; 2304];
-    read_cut(case, source, &mut rows, part);
+    read(
+        input::named(s, at, 10),
+        input::first_mut_u16(&mut rows, field(s, at, 7)),
+        input::first_mut_i32(part, field(s, at, 3)),
+    );
 }
 
 // The call that a case names.
-fn call(input: &[u8], case: &[u8], part: &mut [i32], buffer: &mut [u8]) {
-    let source = bytes(input, field(case, 10), field(case, 11));
-    let c = field(case, 2);
+fn call(s: &[u8], at: usize, part: &mut [i32], buffer: &mut [u8]) {
+    let c = field(s, at, 2);
     if c == 0 {
-        write_case(input, case, part, buffer);
-    } else {
-        if c == 1 {
-            read_case(case, source, part);
-        } else {
-            show_record::quantlist(source);
-        }
+        write_case(s, at, part, buffer);
+        return;
     }
+    if c == 1 {
+        read_case(s, at, part);
+        return;
+    }
+    show_record::quantlist(input::named(s, at, 10));
 }
 
 // A case by its number: its name, and what it gives.
-fn run(input: &[u8], i: usize, part: &mut [i32], buffer: &mut [u8])
-    requires { ⌜ i < 65536 ⌝ }
-{
-    let case = rest(input, field(input, i + 1));
-    show::text(bytes(input, field(case, 0), field(case, 1)));
-    show::text(b"\n");
-    call(input, case, part, buffer);
+fn run(s: &[u8], i: usize, part: &mut [i32], buffer: &mut [u8]) {
+    let at = input::start(s, i);
+    show::text(input::named(s, at, 0));
+    show::end();
+    call(s, at, part, buffer);
 }
 
-fn run_all(input: &[u8], part: &mut [i32], buffer: &mut [u8]) {
-    let cases = least(field(input, 0), 65536);
+fn run_all(s: &[u8], part: &mut [i32], buffer: &mut [u8]) {
+    let n = input::size(s, 0);
     let mut i = 0;
-    while i < cases {
-        run(input, i, part, buffer);
+    while i < n {
+        run(s, i, part, buffer);
         i += 1;
     }
 }
@@ -191,7 +181,7 @@ fn show_length(r: Written, buffer: &[u8]) -> usize {
     match r {
         Written::Done { length } => {
             show::line(b"length=", length as u64);
-            show::line(b"text=", text::total(show_record::first(buffer, length)));
+            show::line(b"text=", text::total(input::first(buffer, length)));
             length
         }
         Written::Lent => 0,
@@ -204,28 +194,28 @@ fn show_length(r: Written, buffer: &[u8]) -> usize {
 fn full(part: &mut [i32], buffer: &mut [u8]) {
     let mut rows = [0u16; 2176];
     all_raw(&mut rows);
-    samples::fill(part, 2147483648, 2654435761, 4294967291);
+    input::fill_samples(part, 2147483648, 2654435761, 4294967291);
     let r = record::write_record(&rows, part, buffer);
     let n = show_length(r, buffer);
     let mut again = [0xabcdu16; 2176];
-    read(show_record::first(buffer, n), &mut again, part);
+    read(input::first(buffer, n), &mut again, part);
 }
 
-fn all(input: &[u8], part: &mut [i32], buffer: &mut [u8]) {
-    run_all(input, part, buffer);
+fn all(s: &[u8], part: &mut [i32], buffer: &mut [u8]) {
+    run_all(s, part, buffer);
     show::text(b"full\n");
     full(part, buffer);
 }
 
 // With samples, and a buffer that is long enough for each case and for the run at the end.
-fn with_buffer(input: &[u8]) {
+fn with_buffer(s: &[u8]) {
     let mut part = [0i32; 394752];
     let mut buffer = [0u8; 4500000];
-    all(input, &mut part, &mut buffer);
+    all(s, &mut part, &mut buffer);
 }
 
 fn main() {
-    let mut input = io::large_buffer();
-    let n = io::read_full(STDIN_FILENO, &mut input);
-    with_buffer(&input[..n]);
+    let mut text = io::large_buffer();
+    let n = io::read_full(STDIN_FILENO, &mut text);
+    with_buffer(&text[..n]);
 }

@@ -1,20 +1,12 @@
 // What `quantlist` writes of a header. What is written no contract can say: each function is proved safe and ending.
 use record::Written;
 
-// The first n bytes, or none where there are fewer.
-pub fn first<'a>(s: &'a [u8], n: usize) -> &'a [u8] {
-    if s.len() < n {
-        return &s[..0];
-    }
-    &s[0..n]
-}
-
 // The record of rows without raw kinds. The longest has 7,079 bytes: six kinds with 123 numbers, eleven with 48.
 fn show_rows(rows: &[u16]) {
     let mut text = [0u8; 8192];
     match record::write_record(rows, &[], &mut text) {
         Written::Done { length } => {
-            show::text(first(&text, length));
+            show::text(input::first(&text, length));
         }
         Written::Lent => {}
         Written::Row { kind: _ } => {}

@@ -7,10 +7,10 @@ use Rattle.read_cases.proofs.main.Statement.{statement}
 use Rattle.read_cases.proofs.main.Tie as tie
 
 abbrev Inv-loop : tie.InvT-loop
-Inv-loop input n at₀ at = (n ≤ 65536) × (length input ≡ 65536)
+Inv-loop text n at₀ at = (n ≤ 65536) × (length text ≡ 65536)
 
 abbrev μ-loop : tie.MeasureT-loop
-μ-loop input n at₀ at = n - at
+μ-loop text n at₀ at = n - at
 
 large-buffer-requires : tie.Need-large-buffer-requires Inv-loop μ-loop
 large-buffer-requires c κs = search needs
@@ -24,8 +24,8 @@ read-full-requires c κs = search needs
 loop-holds : tie.Need-loop-holds Inv-loop μ-loop
 loop-holds c = search needs
 
-array-share-prefix-input : tie.Need-array-share-prefix-input Inv-loop μ-loop
-array-share-prefix-input c = search needs
+array-share-prefix-text : tie.Need-array-share-prefix-text Inv-loop μ-loop
+array-share-prefix-text c = search needs
 
 slice-aggregate-case : tie.Need-slice-aggregate-case Inv-loop μ-loop
 slice-aggregate-case c = search needs
@@ -52,7 +52,7 @@ main-spec =
     slice-aggregate-read-full
     read-full-requires
     loop-holds
-    array-share-prefix-input
+    array-share-prefix-text
     slice-aggregate-case
     case-requires
     loop-less

@@ -7,16 +7,13 @@ use Rattle.record_cases.proofs.run_all.Statement.{statement}
 use Rattle.record_cases.proofs.run_all.Tie as tie
 
 abbrev Inv-loop : tie.InvT-loop
-Inv-loop input part₀ buffer₀ cases i₀ part buffer i = (length part ≡ length part₀) × (length buffer ≡ length buffer₀) × (i ≤ cases) × (cases ≤ 65536)
+Inv-loop s part₀ buffer₀ n i₀ part buffer i = (length part ≡ length part₀) × (length buffer ≡ length buffer₀) × (i ≤ n)
 
 abbrev μ-loop : tie.MeasureT-loop
-μ-loop input part₀ buffer₀ cases i₀ part buffer i = cases - i
+μ-loop s part₀ buffer₀ n i₀ part buffer i = n - i
 
-field-requires : tie.Need-field-requires Inv-loop μ-loop
-field-requires c κs = search needs
-
-least-requires : tie.Need-least-requires Inv-loop μ-loop
-least-requires c κs = search needs
+size-requires : tie.Need-size-requires Inv-loop μ-loop
+size-requires c κs = search needs
 
 loop-holds : tie.Need-loop-holds Inv-loop μ-loop
 loop-holds c = search needs
@@ -48,8 +45,7 @@ run-all-spec =
     (tie.spec
     Inv-loop
     μ-loop
-    field-requires
-    least-requires
+    size-requires
     loop-holds
     run-requires
     add-i
