@@ -1,28 +1,24 @@
 -- The laws of the record over the flat rows. Assumes nothing.
 use mathlib.Core.Path.{_≡_, refl, sym, ap, _∙_, subst, subst⁻¹}
-use mathlib.Core.List.{List, [], _∷_, _++_, append-assoc, append-nil}
-use mathlib.Core.Bool.{Bool, true, false}
-use Prim.Native.Nat.{ℕ, zero, suc, _+_, _*_, _-_, _≤_, _<_}
-use native.Mathlib.Nat.{not-suc-le-zero}
-use native.Mathlib.Decide.{ℕ-discrete}
+use mathlib.Core.List.{List, [], _∷_, _++_, append-nil}
+use mathlib.Core.Bool.{true}
+use Prim.Native.Nat.{ℕ, zero, suc, _+_, _*_, _-_, _≤_}
 use native.Mathlib.Omega.{arith}
-use borrow.Author.Tests.{eq-eqb, ne-eqb, leb-true}
-use lib.IntN.{ℤ, pos}
-use lib.ListN.{length, getD, set, take, drop, replicate, length-append, length-replicate, List·getD-append, getD-replicate}
-use lib.Seq.{take-at, drop-at, getD-append-add, getD-set-same, set-getD}
-use lib.Dec.{T, eqb, leb}
+use borrow.Author.Tests.{leb-true}
+use lib.ListN.{length, getD, set, replicate, length-append, length-replicate, List·getD-append, getD-replicate}
+use lib.Seq.{getD-append-add, set-getD}
+use lib.Dec.{leb}
 use Rattle.params.specs.Row.{fixed, lists}
-use Rattle.record.specs.Format.{pick, Format, Lawful, Longest, Reading, text, whole, via, nothing, seqs, uncons}
+use Rattle.record.specs.Format.{seqs, uncons}
 use Rattle.record.specs.Text.{bytes}
 use Rattle.record.specs.Number.{both, isDigit, number}
 use Rattle.record.specs.Half.{half}
-use Rattle.record.specs.Record.{Entry, header, digit, items, line, numberCount, entry, parts}
-use Rattle.record.specs.Rows.{Row, slots, rowOf, entryOf, rowFormat, rowFormats, allKinds, Rows, kindLines, rowsFormat}
-use Rattle.record.specs.Flat.{Flat, joinRows, samplesOf, cutRows, flatOf, rowsOf, flatFormat}
-use Rattle.record.proofs.Laws.{via-lawful}
+use Rattle.record.specs.Record.{Entry, digit, items, line, numberCount, entry, parts}
+use Rattle.record.specs.Rows.{Row, slots, entryOf, rowFormat, rowFormats, allKinds}
+use Rattle.record.specs.Flat.{joinRows, flatOf}
 use Rattle.record.proofs.Numbers.{T-both}
 use Rattle.record.proofs.HalfLaws.{isTrue}
-use Rattle.record.proofs.RowLaws.{seqs-length, line-length, rows-lawful}
+use Rattle.record.proofs.RowLaws.{seqs-length, line-length}
 
 -- ---- an allowed row: 128 numbers, and 0 at slot 126
 
@@ -81,33 +77,16 @@ pub rows-good : (k n : ℕ) (l : List Row) → seqs ([], []) (rowFormats k n) .O
 rows-good k zero l o = subst⁻¹ Goods o none
 rows-good k (suc n) l o = subst Goods (o .1) (more (row-good k (uncons ([], []) l .0) (o .0 .0)) (rows-good (k + 1) n (uncons ([], []) l .1) (o .0 .1)))
 
--- ---- cutting what was joined
-
-cut-back : {rs : List Row} → Goods rs → (t : List ℕ) → cutRows (joinRows rs ++ t) (samplesOf rs) ≡ rs
-cut-back none t = refl
-cut-back (more {r = r} {rs = rs} g gs) t =
-    let a : r .0 ++ joinRows rs ++ t ≡ r .0 ++ (joinRows rs ++ t) = append-assoc (r .0) (joinRows rs) t in
-    let x : take 128 (r .0 ++ joinRows rs ++ t) ≡ r .0 = ap (take 128) a ∙ take-at (r .0) (joinRows rs ++ t) 128 (g .0) in
-    let y : cutRows (drop 128 (r .0 ++ joinRows rs ++ t)) (samplesOf rs) ≡ rs =
-    ap (λ (z : List ℕ). cutRows (drop 128 z) (samplesOf rs)) a ∙ ap (λ (z : List ℕ). cutRows z (samplesOf rs)) (drop-at (r .0) (joinRows rs ++ t) 128 (g .0)) ∙ cut-back gs t in
-    λ i. (x i, r .1) ∷ y i
-
 -- the numbers of the rows, and zeros up to 2,176
-abbrev filled : List Row → List ℕ
+abbrev pub filled : List Row → List ℕ
 filled rs = joinRows rs ++ replicate (2176 - length (joinRows rs)) 0
 
-filled-long : (rs : List Row) → 126 < length (filled rs)
-filled-long rs = omega (arith, length-append (joinRows rs) (replicate (2176 - length (joinRows rs)) 0), length-replicate {A = ℕ} (2176 - length (joinRows rs)) 0)
-
-slot-zero : {rs : List Row} → Goods rs → getD (filled rs) 126 0 ≡ 0
+pub slot-zero : {rs : List Row} → Goods rs → getD (filled rs) 126 0 ≡ 0
 slot-zero none = getD-replicate 2176 126 0 0 (omega arith)
 slot-zero (more {r = r} {rs = rs} g gs) =
     List·getD-append (r .0 ++ joinRows rs) (replicate (2176 - length (r .0 ++ joinRows rs)) 0) 0 126 (omega (arith, length-append (r .0) (joinRows rs), g .0))
     ∙ List·getD-append (r .0) (joinRows rs) 0 126 (omega (arith, g .0))
     ∙ g .1
-
-flag-of : (p : Rows) → getD (flatOf p .0) 126 0 ≡ p .0
-flag-of p = getD-set-same (filled (p .1)) 126 (p .0) 0 (filled-long (p .1))
 
 pub small-flag : (d : ℕ) → digit (λ x. leb x 1) .Ok d → d ≤ 1
 small-flag d o =
@@ -122,20 +101,6 @@ pub all-count : (l : List Row) → allKinds .Ok l → length l ≡ 17
 unfolding allKinds
 all-count l o = seqs-length ([], []) (rowFormats 0 17) l o
 
-rows-back : (p : Rows) → p .0 ≤ 1 → kindLines (p .0) .Ok (p .1) → cutRows (flatOf p .0) (samplesOf (p .1)) ≡ p .1
-unfolding kindLines
-rows-back p h o = go (ℕ-discrete (p .0) 1)
-  where
-    go : Dec (p .0 ≡ 1) → cutRows (flatOf p .0) (samplesOf (p .1)) ≡ p .1
-    go (yes e) =
-        let q : p .1 ≡ [] = rw (eq-eqb (p .0) 1 e) at o in
-        ap (λ (rs : List Row). cutRows (flatOf p .0) (samplesOf rs)) q ∙ sym q
-    go (no e) =
-        let g : Goods (p .1) = all-good (p .1) (rw (ne-eqb (p .0) 1 e) at o) in
-        let z : p .0 ≡ getD (filled (p .1)) 126 0 = (let y : getD (filled (p .1)) 126 0 ≡ 0 = slot-zero g in omega (arith, y)) in
-        let s : flatOf p .0 ≡ filled (p .1) = ap (set (filled (p .1)) 126) z ∙ set-getD (filled (p .1)) 126 0 in
-        ap (λ (l : List ℕ). cutRows l (samplesOf (p .1))) s ∙ cut-back g (replicate (2176 - length (joinRows (p .1))) 0)
-
 -- rows that are good are 128 numbers each
 pub joined-length : {rs : List Row} → Goods rs → length (joinRows rs) ≡ length rs * 128
 joined-length none = refl
@@ -147,11 +112,3 @@ flat-rows d rs h g l =
     let z : d ≡ getD (filled rs) 126 0 = h ∙ sym (slot-zero g) in
     let n : 2176 - length (joinRows rs) ≡ 0 = omega (arith, joined-length g, l) in
     ap (set (filled rs) 126) z ∙ set-getD (filled rs) 126 0 ∙ ap (λ (i : ℕ). joinRows rs ++ replicate i 0) n ∙ append-nil (joinRows rs)
-
-flat-back : (p : Rows) → rowsFormat .Ok p → rowsOf (flatOf p) ≡ p
-unfolding rowsFormat
-flat-back p o = λ i. (flag-of p i, rows-back p (small-flag (p .0) (o .0 .0 .0 .0 .1)) (o .1) i)
-
-pub flat-lawful : Lawful flatFormat
-unfolding flatFormat
-flat-lawful = via-lawful flatOf rowsOf rowsFormat flat-back rows-lawful

@@ -27,7 +27,6 @@ use Rattle.record.proofs.Records.{digit-lawful}
 use Rattle.record.proofs.Shared.{shared-le-left, shared-le-right, shared-more, begins, begins-with}
 use Rattle.record.proofs.Numbers.{both-false, T-both}
 use Rattle.record.proofs.Positions.{read-within, lit-refuses, lit-reads}
-use Rattle.record.proofs.ItemPlaces.{num-got}
 
 -- ---- an answer's position and the answer
 
@@ -44,9 +43,6 @@ pub seen-within : {A : Type 0} (F : Format A) → Lawful F → (s : List ℕ) (a
 seen-within F L s at r p h e k =
     let g : (a : _) × (readAt F s at ≡ got a p) = seen-got (readAt F s at) r p e k in
     read-within F L s at (g .0) p h (g .1) .1
-
-pub num-within : (F : Format ℕ) → Lawful F → (s : List ℕ) (at : ℕ) (r : Num) (v p : ℕ) → at ≤ length s → r ≡ num (readAt F s at) → r ≡ Got v p → p ≤ length s
-num-within F L s at r v p h e k = read-within F L s at v p h (num-got (readAt F s at) r v p e k) .1
 
 -- ---- fixed_at
 

@@ -1,13 +1,13 @@
 -- The laws of four hexadecimal digits. Assumes nothing.
-use mathlib.Core.Path.{_≡_, refl, sym, ap, _∙_, subst, subst⁻¹}
-use mathlib.Core.List.{List, [], _∷_, _++_}
+use mathlib.Core.Path.{_≡_, refl, ap, _∙_}
+use mathlib.Core.List.{[], _∷_}
 use mathlib.Core.Bool.{Bool, true, false, not}
-use Prim.Native.Nat.{ℕ, zero, suc, _+_, _*_, _-_, _/_, _%_, _≤_, _<_}
+use Prim.Native.Nat.{ℕ, _+_, _*_, _-_, _/_, _%_, _≤_, _<_}
 use native.Mathlib.Omega.{arith}
 use native.Mathlib.Decide.{decLt, ℕ-discrete}
-use borrow.Author.Tests.{leb-true, leb-false, ltb-true, ltb-false, lt-ltb, le-ltb, le-leb, lt-leb, eq-eqb, ne-eqb}
+use borrow.Author.Tests.{leb-true, ltb-true, lt-ltb, le-ltb, le-leb, lt-leb, eq-eqb, ne-eqb}
 use lib.Dec.{T, eqb, leb, ltb}
-use Rattle.record.specs.Format.{Format, Lawful, pick, byte, _▷_, via, closed}
+use Rattle.record.specs.Format.{Lawful, byte, _▷_, via}
 use Rattle.record.specs.Number.{both, isDigit}
 use Rattle.record.specs.Half.{isHex, hexValue, hexByte, mayFollow, four, hexNumber, hexDigits, half, Finite}
 use Rattle.record.proofs.Laws.{byte-lawful, then-lawful, via-lawful, closed-lawful}
@@ -97,7 +97,7 @@ half-bound end v o =
 
 -- ---- the values are the finite half floats
 
-byte-hex : (v : ℕ) → v < 16 → T (isHex (hexByte v)) × (hexValue (hexByte v) ≡ v)
+pub byte-hex : (v : ℕ) → v < 16 → T (isHex (hexByte v)) × (hexValue (hexByte v) ≡ v)
 byte-hex v h = go (decLt v 10)
   where
     go : Dec (v < 10) → T (isHex (hexByte v)) × (hexValue (hexByte v) ≡ v)
@@ -133,29 +133,3 @@ finite-ok end n f =
 
     may : (a b : ℕ) → T (isHex (hexByte (n / 4096))) × (hexValue (hexByte (n / 4096)) ≡ n / 4096) → T (isHex (hexByte (n / 256 % 16))) × (hexValue (hexByte (n / 256 % 16)) ≡ n / 256 % 16) → T (mayFollow (hexValue (hexByte (n / 4096))) (hexByte (n / 256 % 16)))
     may a b A B = rw (isTrue (isHex (hexByte (n / 256 % 16))) (B .0), no31 (hexValue (hexByte (n / 4096))) (hexValue (hexByte (n / 256 % 16))) (A .1) (B .1)) tt
-
-pub ok-finite : (end n : ℕ) → half end .Ok n → Finite n
-ok-finite end n o = record { bits = half-bound end n o; exponent = λ e. clash e }
-  where
-    small : n < 65536
-    small = half-bound end n o
-
-    A : T (isHex (hexByte (n / 4096))) × (hexValue (hexByte (n / 4096)) ≡ n / 4096)
-    A = byte-hex (n / 4096) (omega (arith, small))
-
-    B : T (isHex (hexByte (n / 256 % 16))) × (hexValue (hexByte (n / 256 % 16)) ≡ n / 256 % 16)
-    B = byte-hex (n / 256 % 16) (omega arith)
-
-    not-both : (x : Bool) → not x ≡ true → x ≡ true → ⊥
-    not-both true e k = let z : _≡_ {A = ℕ} 0 1 = cc in omega arith
-    not-both false e k = let z : _≡_ {A = ℕ} 0 1 = cc in omega arith
-
-    clash : n / 1024 % 32 ≡ 31 → ⊥
-    clash e =
-        let a : ℕ = hexValue (hexByte (n / 4096)) in
-        let b : ℕ = hexValue (hexByte (n / 256 % 16)) in
-        let t : (isHex (hexByte (n / 256 % 16)) ≡ true) × (not (both (eqb (a % 8) 7) (leb 12 b)) ≡ true) =
-        T-both (isHex (hexByte (n / 256 % 16))) (not (both (eqb (a % 8) 7) (leb 12 b))) (isTrue (mayFollow a (hexByte (n / 256 % 16))) (o .0 .0 .0 .1 .0)) in
-        let p : a % 8 ≡ 7 = omega (arith, A .1, e, small) in
-        let q : 12 ≤ b = omega (arith, B .1, e, small) in
-        not-both (both (eqb (a % 8) 7) (leb 12 b)) (t .1) (rw (eq-eqb (a % 8) 7 p, le-leb 12 b q))

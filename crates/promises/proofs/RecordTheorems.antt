@@ -1,28 +1,27 @@
 -- What document 01 asks of the record, over descriptions: 17 rows of 128 numbers and an arena of samples. Assumes nothing.
-use mathlib.Core.Path.{_≡_, refl, sym, ap, _∙_, subst, subst⁻¹}
+use mathlib.Core.Path.{_≡_, refl, sym, ap, _∙_}
 use mathlib.Core.List.{List, [], _∷_, _++_}
 use mathlib.Core.Bool.{Bool, true, false, _&&_}
-use Prim.Native.Nat.{ℕ, zero, suc, _+_, _*_, _-_, _≤_, _<_}
+use Prim.Native.Nat.{ℕ, zero, suc, _+_, _-_, _≤_, _<_}
 use native.Mathlib.Omega.{arith}
 use native.Mathlib.Decide.{ℕ-discrete}
-use borrow.Author.Tests.{eq-eqb, ne-eqb, eqb-true, lt-ltb, le-ltb}
+use borrow.Author.Tests.{ne-eqb, eqb-true, lt-ltb, le-ltb}
 use lib.IntN.{ℤ}
 use lib.ListN.{length, getD}
-use lib.Dec.{eqb, ltb}
-use Rattle.params.specs.Allowed.{modeAt, rowFault}
-use Rattle.record.specs.Format.{Format, pick, shared, Longest, Reading, done, text, whole}
-use Rattle.record.specs.Text.{bytes}
+use lib.Dec.{eqb}
+use Rattle.params.specs.Allowed.{modeAt}
+use Rattle.record.specs.Format.{pick, shared, Longest, Reading, done, text, whole}
 use Rattle.record.specs.Flat.{Flat, flatFormat}
 use Rattle.transform.specs.Kinds.{part}
 use Rattle.params.specs.Raw.{isRaw, anyRaw}
-use Rattle.record.specs.Description.{lentFault, rawParts, describe, recordOf, Allowed, Same}
+use Rattle.record.specs.Description.{rawParts, describe, recordOf, Allowed, Same}
 use Rattle.record.specs.declared.reader.Taken.the-variants as takes
 use Rattle.record.specs.declared.writer.Written.the-variants as writes
-use Rattle.record.specs.Replies.{readLent, readIs, readAnswer, rowsAfter, writeAnswer}
-use Rattle.record.proofs.Laws.{injective, no-beginning, whole-writes, whole-text}
-use Rattle.record.proofs.FlatLaws.{flat-lawful}
-use Rattle.record.proofs.DefaultRows.{mode-zero}
-use Rattle.record.proofs.AllowedOk.{checked-of, allowed-ok}
+use Rattle.record.specs.Replies.{readLent, readIs, readAnswer, writeAnswer}
+use Rattle.record.proofs.Laws.{no-beginning}
+use Rattle.promises.proofs.RecordWhole.{flat-lawful, injective, whole-writes, whole-text}
+use Rattle.promises.proofs.RecordDefaults.{mode-zero}
+use Rattle.promises.proofs.RecordAllowed.{checked-of, allowed-ok}
 
 -- ---- the same description, and the same parts by kind
 

@@ -1,11 +1,10 @@
 -- What reading a record leaves in the arena: each raw kind's part holds its samples, and every other part stays. Assumes nothing.
 use mathlib.Core.Path.{_≡_, refl, sym, ap, _∙_, subst, subst⁻¹}
 use mathlib.Core.List.{List, [], _∷_, _++_}
-use mathlib.Core.Bool.{Bool, true, false, not, _&&_, _||_}
-use Prim.Native.Nat.{ℕ, zero, suc, _+_, _*_, _-_, _≤_, _<_}
+use mathlib.Core.Bool.{Bool, true, false, _&&_}
+use Prim.Native.Nat.{ℕ, zero, suc, _+_, _-_, _≤_, _<_}
 use native.Mathlib.Omega.{arith}
 use native.Mathlib.Decide.{ℕ-discrete, decLt}
-use native.Mathlib.Numerals.{add-one}
 use native.Mathlib.Nat.{eq-or-lt-of-le, le-of-suc-le-suc, not-suc-le-zero}
 use mathlib.Core.Logic.{⊎-elim}
 use borrow.Author.Tests.{eq-eqb, ne-eqb}
@@ -15,18 +14,16 @@ use lib.Seq.{sets, sets-eq, length-sets, ext-getD, getD-take, getD-drop, getD-se
 use lib.Dec.{eqb}
 use Rattle.transform.specs.Kinds.{placesOf, startOf, part}
 use Rattle.transform.proofs.Laws.{end-le}
-use Rattle.record.specs.Format.{pick, done, whole}
-use Rattle.record.specs.Flat.{Flat, flatFormat}
+use Rattle.record.specs.Format.{pick}
 use Rattle.params.specs.Raw.{isRaw, anyRaw}
-use Rattle.record.specs.Description.{rawParts, describe, recordOf, Allowed, storeParts}
-use Rattle.record.specs.declared.reader.Taken as taken
+use Rattle.record.specs.Description.{rawParts, recordOf, Allowed, storeParts}
 use Rattle.record.specs.declared.reader.Taken.the-variants as takes
-use Rattle.record.specs.Replies.{readLent, readIs, readAnswer, rowsLeft, samplesLeft, rowsAfter, samplesAfter}
+use Rattle.record.specs.Replies.{readIs, readAnswer, rowsLeft, samplesLeft, rowsAfter, samplesAfter}
 use Rattle.record.proofs.SetStores.{lent-raw}
 use Rattle.params.specs.Allowed.{modeAt}
-use Rattle.record.proofs.DefaultRows.{mode-zero}
-use Rattle.record.proofs.AllowedOk.{checked-of}
-use Rattle.record.proofs.Theorems.{record-read}
+use Rattle.promises.proofs.RecordDefaults.{mode-zero}
+use Rattle.promises.proofs.RecordAllowed.{checked-of}
+use Rattle.promises.proofs.RecordTheorems.{record-read}
 
 -- ---- stores beside a place
 
