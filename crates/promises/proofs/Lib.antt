@@ -22,7 +22,9 @@ pub mod RecordWhole
 pub mod RecordDefaults
 pub mod RecordAllowed
 pub mod RecordTheorems
+pub mod RecordParts
 pub mod RecordBack
 pub mod RecordRows
 pub mod RecordBehind
+pub mod RecordText
 pub mod RecordExamples

@@ -1,4 +1,4 @@
--- Every description that the record's format allows is an allowed description with some arena; so TEXT's number is reached. Assumes nothing.
+-- Every description that the record's format allows is an allowed description with some arena. Assumes nothing.
 use mathlib.Core.Path.{_≡_, refl, sym, ap, _∙_, subst, subst⁻¹}
 use mathlib.Core.List.{List, [], _∷_}
 use mathlib.Core.Bool.{Bool, true, false}
@@ -17,20 +17,19 @@ use Rattle.transform.proofs.FirstLaws.{before-every}
 use Rattle.params.specs.Allowed.{rowAt, modeAt, entryRow, flagRow, rowAllowed, flagFault, rowFault}
 use Rattle.params.specs.Header.{allDefault}
 use Rattle.params.proofs.FaultLaws.{allowed-entry, fault-rows}
-use Rattle.record.specs.Format.{pick, shared, seqs, Longest, text, whole}
+use Rattle.record.specs.Format.{pick, seqs}
 use Rattle.record.specs.Record.{header, sampleCount}
 use Rattle.record.specs.Rows.{Row, rowFormat, rowFormats, allKinds, kindLines, rowsFormat}
 use Rattle.record.specs.Flat.{Flat, joinRows, cutRows, flatOf, flatFormat}
 use Rattle.params.specs.Raw.{isRaw}
 use Rattle.params.proofs.RawLaws.{all-samples}
-use Rattle.record.specs.Description.{rawParts, describe, recordOf, fits32, Each, Allowed, storeParts}
-use Rattle.promises.proofs.RecordWhole.{flat-lawful, whole-text}
+use Rattle.record.specs.Description.{rawParts, describe, fits32, Each, Allowed, storeParts}
 use Rattle.record.proofs.FlatLaws.{all-good, all-count, flat-rows, joined-length, small-flag}
 use Rattle.promises.proofs.RecordRows.{samples-fit, row-bits, row-passes, each-zero}
 use Rattle.record.proofs.KindStores.{ready}
 use Rattle.record.proofs.OkLaws.{each-of}
 use Rattle.record.proofs.SetStores.{lent-else, each-zeros, row-first}
-use Rattle.promises.proofs.RecordBack.{other-part, own-part}
+use Rattle.promises.proofs.RecordParts.{other-part, own-part, store-long}
 
 -- ---- lists of elements
 
@@ -53,10 +52,6 @@ sized-tail j v vs f i = let q : j + suc i ≡ j + 1 + i = omega arith in subst (
 
 sized-head : (j : ℕ) (v : List ℤ) (vs : List (List ℤ)) → Sized j (v ∷ vs) → length v ≤ placesOf j
 sized-head j v vs f = subst (λ (n : ℕ). length v ≤ placesOf n) (add-zero j) (f 0)
-
-store-long : (j : ℕ) (vs : List (List ℤ)) (arena : List ℤ) → length (storeParts j vs arena) ≡ length arena
-store-long j [] arena = refl
-store-long j (v ∷ vs) arena = store-long (j + 1) vs (sets arena (startOf j) v) ∙ length-sets arena (startOf j) v
 
 store-before : (j : ℕ) (vs : List (List ℤ)) (arena : List ℤ) → length arena ≡ 394752 → Sized j vs → (k : ℕ) → k < j → part k (storeParts j vs arena) ≡ part k arena
 store-before j [] arena l f k h = refl
@@ -272,11 +267,3 @@ module _ (f : Flat) (o : flatFormat .Ok f) where
       go : Dec (getD (f .0) 126 0 ≡ 1) → Behind f
       go (yes e) = subst Behind (default-is e) default-behind
       go (no e) = behind-kinds e
-
--- TEXT's number is reached: some allowed description's record shares that much
-pub text-reached : (t : List ℕ) (n : ℕ) → whole flatFormat t ≡ text n → (r : List ℕ) × (s : List ℤ) × Allowed r s × (shared t (recordOf r s) ≡ n)
-unfolding recordOf
-text-reached t n e =
-    let x : Longest flatFormat t n = whole-text flatFormat flat-lawful t n e .0 in
-    let b : Behind (x .reached .0) = behind (x .reached .0) (x .reached .1) in
-    (b .rows, b .samples, b .allowed, ap (λ (f : Flat). shared t (flatFormat .write f)) (b .same) ∙ x .reached .2)
