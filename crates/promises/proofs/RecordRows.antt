@@ -1,7 +1,7 @@
 -- A row and samples that the record's format allows pass the ROW check. Assumes nothing.
 use mathlib.Core.Path.{_≡_, refl, sym, ap, _∙_, subst, subst⁻¹}
 use mathlib.Core.List.{List, [], _∷_, _++_}
-use mathlib.Core.Bool.{Bool, true, false, not}
+use mathlib.Core.Bool.{Bool, true, false, not, _&&_}
 use Prim.Native.Nat.{ℕ, zero, suc, _+_, _*_, _-_, _/_, _%_, _≤_, _<_}
 use native.Mathlib.Omega.{arith}
 use borrow.Author.Tests.{lt-ltb, le-leb, eq-eqb, ne-eqb}
@@ -12,24 +12,23 @@ use lib.Dec.{T, eqb, leb, ltb}
 use Rattle.bitstream.specs.Half.{barred}
 use Rattle.params.specs.Row.{fixed, lists, allowed}
 use Rattle.params.specs.Allowed.{allFine, allZero, countOk, entryRow}
-use Rattle.params.proofs.AllowedLaws.{and-both, of-zeros}
+use Rattle.params.proofs.AllowedLaws.{and-true, and-both, of-zeros}
 use Rattle.record.specs.Format.{Format, seqs, uncons}
 use Rattle.record.specs.Text.{bytes}
-use Rattle.record.specs.Number.{both, isDigit, number, signed}
+use Rattle.record.specs.Number.{isDigit, number, signed}
 use Rattle.record.specs.Half.{isHex, hexValue, hexByte, mayFollow, half, Finite}
 use Rattle.record.specs.Record.{items, endOf, line, modeOk, numberCount, sampleCount, modeLines, entry}
 use Rattle.record.specs.Rows.{Row, slots, rowOf, countsOf, entryOf, rowFormat}
 use Rattle.record.specs.Description.{fits32, Each}
 use Rattle.record.specs.Stored.{Ready}
-use Rattle.record.proofs.Numbers.{T-both}
 use Rattle.record.proofs.HalfLaws.{isTrue, half-bound, byte-hex}
 use Rattle.record.proofs.KindStores.{ready}
 
 mode-allowed : (k m : ℕ) → modeLines k .Ok m → allowed k m ≡ true
 mode-allowed k m o =
     let q : 48 + m - 48 ≡ m = omega arith in
-    let t : (isDigit (48 + m) ≡ true) × (modeOk k (48 + m - 48) ≡ true) = T-both (isDigit (48 + m)) (modeOk k (48 + m - 48)) (isTrue (both (isDigit (48 + m)) (modeOk k (48 + m - 48))) (o .0 .0 .0 .1 .0)) in
-    let u : (ltb (48 + m - 48) 8 ≡ true) × (allowed k (48 + m - 48) ≡ true) = T-both (ltb (48 + m - 48) 8) (allowed k (48 + m - 48)) (t .1) in
+    let t : (isDigit (48 + m) ≡ true) × (modeOk k (48 + m - 48) ≡ true) = and-true (isDigit (48 + m)) (modeOk k (48 + m - 48)) (isTrue (isDigit (48 + m) && modeOk k (48 + m - 48)) (o .0 .0 .0 .1 .0)) in
+    let u : (ltb (48 + m - 48) 8 ≡ true) × (allowed k (48 + m - 48) ≡ true) = and-true (ltb (48 + m - 48) 8) (allowed k (48 + m - 48)) (t .1) in
     ap (allowed k) (sym q) ∙ u .1
 
 counts-pass : (n c d : ℕ) → n ≤ 2 → line (bytes "bands=") 0 (number 16) n .Ok (take n (c ∷ d ∷ [])) → c ≡ getD (take n (c ∷ d ∷ [])) 0 0 → d ≡ getD (take n (c ∷ d ∷ [])) 1 0
@@ -73,11 +72,11 @@ ok-finite end n o = record { bits = half-bound end n o; exponent = λ e. clash e
     clash e =
         let a : ℕ = hexValue (hexByte (n / 4096)) in
         let b : ℕ = hexValue (hexByte (n / 256 % 16)) in
-        let t : (isHex (hexByte (n / 256 % 16)) ≡ true) × (not (both (eqb (a % 8) 7) (leb 12 b)) ≡ true) =
-        T-both (isHex (hexByte (n / 256 % 16))) (not (both (eqb (a % 8) 7) (leb 12 b))) (isTrue (mayFollow a (hexByte (n / 256 % 16))) (o .0 .0 .0 .1 .0)) in
+        let t : (isHex (hexByte (n / 256 % 16)) ≡ true) × (not (eqb (a % 8) 7 && leb 12 b) ≡ true) =
+        and-true (isHex (hexByte (n / 256 % 16))) (not (eqb (a % 8) 7 && leb 12 b)) (isTrue (mayFollow a (hexByte (n / 256 % 16))) (o .0 .0 .0 .1 .0)) in
         let p : a % 8 ≡ 7 = omega (arith, A .1, e, small) in
         let q : 12 ≤ b = omega (arith, B .1, e, small) in
-        not-both (both (eqb (a % 8) 7) (leb 12 b)) (t .1) (rw (eq-eqb (a % 8) 7 p, le-leb 12 b q))
+        not-both (eqb (a % 8) 7 && leb 12 b) (t .1) (rw (eq-eqb (a % 8) 7 p, le-leb 12 b q))
 
 half-fine : (end v : ℕ) → half end .Ok v → (barred v ≡ false) × (v < 65536)
 half-fine end v o = let x : Finite v = ok-finite end v o in (ne-eqb (v / 1024 % 32) 31 (x .exponent), x .bits)

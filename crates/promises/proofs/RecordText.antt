@@ -40,25 +40,31 @@ done-record t f e =
 first-apart : (a b : ℕ) (v w : List ℕ) → (a ≡ b → ⊥) → a ∷ v ≡ b ∷ w → ⊥
 first-apart a b v w h e = h (ap (λ (l : List ℕ). getD l 0 0) e)
 
-text-number : (x : Taken) (k : ℕ) → takenReply x ≡ 10 ∷ k ∷ [] → x ≡ takes.Text k
-text-number takes.Done k e = absurd (first-apart 0 10 [] (k ∷ []) (λ q. omega arith) e)
-text-number takes.Lent k e = absurd (first-apart 1 10 [] (k ∷ []) (λ q. omega arith) e)
-text-number (takes.Room m) k e = absurd (first-apart 9 10 (m ∷ []) (k ∷ []) (λ q. omega arith) e)
-text-number (takes.Text m) k e = ap takes.Text (ap (λ (l : List ℕ). getD l 1 0) e)
+-- ROOM or DONE
+abbrev kept : Bool → Taken
+kept b = pick b (takes.Room 394752) takes.Done
+
+room-kept : (b : Bool) → takenReply (kept b) ≡ 9 ∷ 394752 ∷ [] → b ≡ true
+room-kept true e = refl
+room-kept false e = absurd (first-apart 0 9 [] (394752 ∷ []) (λ q. omega arith) e)
+
+done-kept : (b : Bool) → takenReply (kept b) ≡ 0 ∷ [] → b ≡ false
+done-kept true e = absurd (first-apart 9 0 (394752 ∷ []) [] (λ q. omega arith) e)
+done-kept false e = refl
+
+text-kept : (b : Bool) (k : ℕ) → takenReply (kept b) ≡ 10 ∷ k ∷ [] → ⊥
+text-kept true k e = first-apart 9 10 (394752 ∷ []) (k ∷ []) (λ q. omega arith) e
+text-kept false k e = first-apart 0 10 [] (k ∷ []) (λ q. omega arith) e
 
 -- TEXT is given with the number that the definition names
-text-answer : (n l : ℕ) (t : List ℕ) (k : ℕ) → takenReply (readAnswer n l t) ≡ 10 ∷ k ∷ [] → whole flatFormat t ≡ text k
+pub text-answer : (n l : ℕ) (t : List ℕ) (k : ℕ) → takenReply (readAnswer n l t) ≡ 10 ∷ k ∷ [] → whole flatFormat t ≡ text k
 unfolding readAnswer
-text-answer n l t k e = go (readLent n l) (whole flatFormat t) refl (text-number (readAnswer n l t) k e)
+text-answer n l t k e = go (readLent n l) (whole flatFormat t) refl e
   where
-    two : (b : Bool) → pick b (takes.Room 394752) takes.Done ≡ takes.Text k → ⊥
-    two true q = let z : _≡_ {A = ℕ} 0 1 = cc in omega arith
-    two false q = let z : _≡_ {A = ℕ} 0 1 = cc in omega arith
-
-    go : (b : Bool) (x : Reading Flat) → whole flatFormat t ≡ x → pick b takes.Lent (readIs l x) ≡ takes.Text k → whole flatFormat t ≡ text k
-    go true x h q = absurd (let z : _≡_ {A = ℕ} 0 1 = cc in omega arith)
-    go false (done f) h q = absurd (two (anyRaw (f .0) && eqb l 0) q)
-    go false (text m) h q = let z : m ≡ k = cc in h ∙ ap text z
+    go : (b : Bool) (x : Reading Flat) → whole flatFormat t ≡ x → takenReply (pick b takes.Lent (readIs l x)) ≡ 10 ∷ k ∷ [] → whole flatFormat t ≡ text k
+    go true x h q = absurd (first-apart 1 10 [] (k ∷ []) (λ z. omega arith) q)
+    go false (done f) h q = absurd (text-kept (anyRaw (f .0) && eqb l 0) k q)
+    go false (text m) h q = h ∙ ap text (ap (λ (v : List ℕ). getD v 1 0) q)
 
 -- its number is the longest beginning that the bytes share with any record
 module _ (n l : ℕ) (t : List ℕ) (k : ℕ) (e : takenReply (readAnswer n l t) ≡ 10 ∷ k ∷ []) where
@@ -78,18 +84,6 @@ module _ (n l : ℕ) (t : List ℕ) (k : ℕ) (e : takenReply (readAnswer n l t)
       let b : Behind (x .0) = behind (x .0) (x .1) in
       (b .rows, b .samples, b .allowed, ap (λ (f : Flat). shared t (flatFormat .write f)) (b .same) ∙ x .2)
 
--- ROOM or DONE
-abbrev kept : Bool → Taken
-kept b = pick b (takes.Room 394752) takes.Done
-
-room-kept : (b : Bool) → takenReply (kept b) ≡ 9 ∷ 394752 ∷ [] → b ≡ true
-room-kept true e = refl
-room-kept false e = absurd (first-apart 0 9 [] (394752 ∷ []) (λ q. omega arith) e)
-
-done-kept : (b : Bool) → takenReply (kept b) ≡ 0 ∷ [] → b ≡ false
-done-kept true e = absurd (first-apart 9 0 (394752 ∷ []) [] (λ q. omega arith) e)
-done-kept false e = refl
-
 -- rows and samples of the lengths named
 module _ (n l : ℕ) (t : List ℕ) (named : readLent n l ≡ false) where
   answer : readAnswer n l t ≡ readIs l (whole flatFormat t)
@@ -108,14 +102,7 @@ module _ (n l : ℕ) (t : List ℕ) (named : readLent n l ≡ false) where
 
   -- TEXT is given exactly where the bytes are no record
   pub text-exactly : ((k : ℕ) × (takenReply (readAnswer n l t) ≡ 10 ∷ k ∷ [])) ↔ (IsRecord t → ⊥)
-  text-exactly = (λ p x. not-record p x, λ h. either (λ k e. (k, ap takenReply e)) (λ x. absurd (h x)))
-    where
-      not-record : (k : ℕ) × (takenReply (readAnswer n l t) ≡ 10 ∷ k ∷ []) → IsRecord t → ⊥
-      not-record p x = go (anyRaw (x .rows) && eqb l 0) (sym (ap takenReply (of-record x)) ∙ p .1)
-        where
-          go : (b : Bool) → takenReply (kept b) ≡ 10 ∷ p .0 ∷ [] → ⊥
-          go true e = first-apart 9 10 (394752 ∷ []) (p .0 ∷ []) (λ q. omega arith) e
-          go false e = first-apart 0 10 [] (p .0 ∷ []) (λ q. omega arith) e
+  text-exactly = (λ p x. text-kept (anyRaw (x .rows) && eqb l 0) (p .0) (sym (ap takenReply (of-record x)) ∙ p .1), λ h. either (λ k e. (k, ap takenReply e)) (λ x. absurd (h x)))
 
   -- ROOM is given exactly where they are a record that has raw, and no samples are lent
   pub room-exactly : (takenReply (readAnswer n l t) ≡ 9 ∷ 394752 ∷ []) ↔ ((x : IsRecord t) × ((anyRaw (x .rows) && eqb l 0) ≡ true))
@@ -124,7 +111,7 @@ module _ (n l : ℕ) (t : List ℕ) (named : readLent n l ≡ false) where
     λ p. ap takenReply (of-record (p .0)) ∙ ap (λ (b : Bool). takenReply (kept b)) (p .1),
   )
 
-  -- and DONE exactly where they are a record, and no raw or samples lent
+  -- and DONE exactly where they are a record, and samples are lent or it has no raw
   pub done-exactly : (takenReply (readAnswer n l t) ≡ 0 ∷ []) ↔ ((x : IsRecord t) × ((anyRaw (x .rows) && eqb l 0) ≡ false))
   done-exactly = (
     λ e. either (λ k q. absurd (first-apart 10 0 (k ∷ []) [] (λ z. omega arith) (sym (ap takenReply q) ∙ e))) (λ x. (x, done-kept (anyRaw (x .rows) && eqb l 0) (sym (ap takenReply (of-record x)) ∙ e))),

@@ -1,7 +1,7 @@
 -- What the readers of a kind's parts, of its entry and of its row go by. Assumes nothing.
 use mathlib.Core.Path.{_≡_, refl, sym, ap, _∙_, subst, subst⁻¹}
 use mathlib.Core.List.{List, [], _∷_, _++_}
-use mathlib.Core.Bool.{true}
+use mathlib.Core.Bool.{true, _&&_}
 use Prim.Native.Nat.{ℕ, zero, suc, _+_, _*_, _-_, _≤_, _<_}
 use native.Mathlib.Nat.{zero-add}
 use native.Mathlib.Decide.{ℕ-discrete}
@@ -14,19 +14,19 @@ use lib.Dec.{ltb}
 use Rattle.transform.specs.Kinds.{placesOf, startOf}
 use Rattle.transform.proofs.Laws.{end-le}
 use Rattle.params.specs.Row.{fixed, lists, allowed}
+use Rattle.params.proofs.AllowedLaws.{and-true}
 use Rattle.record.specs.Format.{Answer, got, bad, Format, _▷_, mapAnswer}
 use Rattle.record.specs.declared.piece.Num.{Num}
 use Rattle.record.specs.declared.piece.Num.the-variants.{Got, Bad}
 use Rattle.record.specs.declared.piece.Scan as scan
 use Rattle.record.specs.declared.piece.Scan.the-variants as scans
 use Rattle.record.specs.Text.{bytes}
-use Rattle.record.specs.Number.{both, isDigit, number, signed}
+use Rattle.record.specs.Number.{isDigit, number, signed}
 use Rattle.record.specs.Half.{half}
 use Rattle.record.specs.Record.{Entry, line, modeOk, numberCount, sampleCount, modeLines, parts, entry}
 use Rattle.record.specs.Rows.{slots, rowOf, entryOf, rowFormat}
 use Rattle.record.specs.Answers.{readAt, num, seen, Fresh, PartsStored, EntryStored, RowStored}
 use Rattle.record.proofs.Laws.{got-bad}
-use Rattle.record.proofs.Numbers.{T-both}
 use Rattle.record.proofs.HalfLaws.{isTrue}
 use Rattle.record.proofs.Positions.{read-via, read-within, first-refuses, second-refuses, both-read}
 use Rattle.record.proofs.ItemPlaces.{num-got, num-bad}
@@ -149,8 +149,8 @@ part-fits k m n e = go (ℕ-discrete m 7)
 -- a mode that was read is below 8
 pub mode-small : (k m : ℕ) → modeLines k .Ok m → m < 8
 mode-small k m o =
-    let t : (isDigit (48 + m) ≡ true) × (modeOk k (48 + m - 48) ≡ true) = T-both (isDigit (48 + m)) (modeOk k (48 + m - 48)) (isTrue (both (isDigit (48 + m)) (modeOk k (48 + m - 48))) (o .0 .0 .0 .1 .0)) in
-    let u : (ltb (48 + m - 48) 8 ≡ true) × (allowed k (48 + m - 48) ≡ true) = T-both (ltb (48 + m - 48) 8) (allowed k (48 + m - 48)) (t .1) in
+    let t : (isDigit (48 + m) ≡ true) × (modeOk k (48 + m - 48) ≡ true) = and-true (isDigit (48 + m)) (modeOk k (48 + m - 48)) (isTrue (isDigit (48 + m) && modeOk k (48 + m - 48)) (o .0 .0 .0 .1 .0)) in
+    let u : (ltb (48 + m - 48) 8 ≡ true) × (allowed k (48 + m - 48) ≡ true) = and-true (ltb (48 + m - 48) 8) (allowed k (48 + m - 48)) (t .1) in
     omega (arith, ltb-true (48 + m - 48) 8 (u .0))
 
 module _ (s : List ℕ) (at k : ℕ) (r : Num) (e : r ≡ num (readAt (modeLines k) s at)) where
