@@ -184,6 +184,12 @@ long-place k at h = rw (le-ltb k 10 h)
 
 -- ---- told, first_line, short_lines and long_lines
 
+pub first-default : (d : ℕ) → d ≡ 1 → bytes "default=1\n" ≡ header .write d
+first-default d e = ap (header .write) (sym e)
+
+pub first-given : (d : ℕ) → d < 2 → (d ≡ 1 → ⊥) → bytes "default=0\n" ≡ header .write d
+first-given d h n = let e : 0 ≡ d = omega arith in ap (header .write) e
+
 pub told-got : (v q : ℕ) (x : scan.Scan) → x ≡ scans.Got q → Got v q ≡ toldOf v x
 told-got v q x e = sym (ap (toldOf v) e)
 
