@@ -18,3 +18,13 @@ pub mod Tame
 pub mod DefaultsAccepted
 pub mod Steps
 pub mod OnlyJpeg
+pub mod RecordWhole
+pub mod RecordDefaults
+pub mod RecordAllowed
+pub mod RecordTheorems
+pub mod RecordParts
+pub mod RecordBack
+pub mod RecordRows
+pub mod RecordBehind
+pub mod RecordText
+pub mod RecordExamples

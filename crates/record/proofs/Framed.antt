@@ -1,7 +1,7 @@
 -- What the readers of fixed bytes, of digits and of lines between fixed bytes go by. Assumes nothing.
 use mathlib.Core.Path.{_≡_, refl, sym, ap, _∙_, subst, subst⁻¹}
 use mathlib.Core.List.{List, [], _∷_, _++_, append-assoc}
-use mathlib.Core.Bool.{Bool, true, false}
+use mathlib.Core.Bool.{Bool, true, false, _&&_}
 use Prim.Native.Nat.{ℕ, zero, suc, _+_, _-_, _≤_, _<_, zero-le, suc-le-suc}
 use native.Mathlib.Nat.{le-of-suc-le-suc, le-refl}
 use native.Mathlib.Decide.{ℕ-discrete, decLt}
@@ -12,6 +12,7 @@ use lib.Seq.{getD-drop}
 use lib.Dec.{T, leb, ltb}
 use Rattle.transform.specs.Kinds.{widthOf, heightOf}
 use Rattle.params.specs.Row.{allowed}
+use Rattle.params.proofs.AllowedLaws.{and-true}
 use Rattle.record.specs.Format.{Answer, got, bad, pick, shared, Format, Lawful, lit, after, closed, mapAnswer}
 use Rattle.record.specs.Text.{bytes}
 use Rattle.record.specs.declared.piece.Num.{Num}
@@ -19,15 +20,14 @@ use Rattle.record.specs.declared.piece.Num.the-variants.{Got, Bad}
 use Rattle.record.specs.declared.piece.Scan as scan
 use Rattle.record.specs.declared.piece.Scan.the-variants as scans
 use Rattle.record.specs.Answers.{shift, readAt, num, seen, toldOf, digitOr}
-use Rattle.record.specs.Number.{both, isDigit}
+use Rattle.record.specs.Number.{isDigit}
 use Rattle.record.specs.Record.{digit, header, modeOk, heading, orders, modeLines}
 use Rattle.record.proofs.Laws.{no-beginning, refused, longest-one, lit-whole, lit-lawful, after-lawful, closed-lawful}
 use Rattle.record.proofs.HalfLaws.{isTrue}
 use Rattle.record.proofs.Records.{digit-lawful}
 use Rattle.record.proofs.Shared.{shared-le-left, shared-le-right, shared-more, begins, begins-with}
-use Rattle.record.proofs.Numbers.{both-false, T-both}
+use Rattle.record.proofs.Numbers.{and-false}
 use Rattle.record.proofs.Positions.{read-within, lit-refuses, lit-reads}
-use Rattle.record.proofs.ItemPlaces.{num-got}
 
 -- ---- an answer's position and the answer
 
@@ -44,9 +44,6 @@ pub seen-within : {A : Type 0} (F : Format A) → Lawful F → (s : List ℕ) (a
 seen-within F L s at r p h e k =
     let g : (a : _) × (readAt F s at ≡ got a p) = seen-got (readAt F s at) r p e k in
     read-within F L s at (g .0) p h (g .1) .1
-
-pub num-within : (F : Format ℕ) → Lawful F → (s : List ℕ) (at : ℕ) (r : Num) (v p : ℕ) → at ≤ length s → r ≡ num (readAt F s at) → r ≡ Got v p → p ≤ length s
-num-within F L s at r v p h e k = read-within F L s at v p h (num-got (readAt F s at) r v p e k) .1
 
 -- ---- fixed_at
 
@@ -127,19 +124,19 @@ module _ (w v : List ℕ) (ok : ℕ → Bool) (zeroth : T (ok 0)) where
   digit-of : (d : ℕ) → Line .Ok d → digitOr ok (48 + d) ≡ d
   digit-of d o =
       let q : 48 + d - 48 ≡ d = omega arith in
-      rw (isTrue (both (isDigit (48 + d)) (ok (48 + d - 48))) (o .0 .0 .0 .1 .0)) q
+      rw (isTrue (isDigit (48 + d) && ok (48 + d - 48)) (o .0 .0 .0 .1 .0)) q
 
-  either : (x : Bool) (b : ℕ) → both (isDigit b) (ok (b - 48)) ≡ x → Line .Ok (pick x (b - 48) 0)
+  either : (x : Bool) (b : ℕ) → (isDigit b && ok (b - 48)) ≡ x → Line .Ok (pick x (b - 48) 0)
   either true b e =
-      let u : (isDigit b ≡ true) × (ok (b - 48) ≡ true) = T-both (isDigit b) (ok (b - 48)) e in
-      let z : (leb 48 b ≡ true) × (ltb b 58 ≡ true) = T-both (leb 48 b) (ltb b 58) (u .0) in
+      let u : (isDigit b ≡ true) × (ok (b - 48) ≡ true) = and-true (isDigit b) (ok (b - 48)) e in
+      let z : (leb 48 b ≡ true) × (ltb b 58 ≡ true) = and-true (leb 48 b) (ltb b 58) (u .0) in
       let q : 48 + (b - 48) ≡ b = omega (arith, leb-true 48 b (z .0)) in
-      ((((tt, (subst⁻¹ (λ (y : ℕ). T (both (isDigit y) (ok (y - 48)))) q (subst⁻¹ T e tt), ap (λ (y : ℕ). y - 48) q)), refl), tt), refl)
+      ((((tt, (subst⁻¹ (λ (y : ℕ). T (isDigit y && ok (y - 48))) q (subst⁻¹ T e tt), ap (λ (y : ℕ). y - 48) q)), refl), tt), refl)
   either false b e = ((((tt, (zeroth, refl)), refl), tt), refl)
 
   module _ (t : List ℕ) (d : ℕ) (e : d ≡ digitOr ok (getD t (length w) 0)) where
     allowed-digit : Line .Ok d
-    allowed-digit = subst⁻¹ (λ (x : ℕ). Line .Ok x) e (either (both (isDigit (getD t (length w) 0)) (ok (getD t (length w) 0 - 48))) (getD t (length w) 0) refl)
+    allowed-digit = subst⁻¹ (λ (x : ℕ). Line .Ok x) e (either (isDigit (getD t (length w) 0) && ok (getD t (length w) 0 - 48)) (getD t (length w) 0) refl)
 
     most : (a : ℕ) → Line .Ok a → shared t (Line .write a) ≤ shared t (Line .write d)
     most a o = go (decLt (length w) (shared t (Line .write a)))
@@ -187,6 +184,12 @@ long-place k at h = rw (le-ltb k 10 h)
 
 -- ---- told, first_line, short_lines and long_lines
 
+pub first-default : (d : ℕ) → d ≡ 1 → bytes "default=1\n" ≡ header .write d
+first-default d e = ap (header .write) (sym e)
+
+pub first-given : (d : ℕ) → d < 2 → (d ≡ 1 → ⊥) → bytes "default=0\n" ≡ header .write d
+first-given d h n = let e : 0 ≡ d = omega arith in ap (header .write) e
+
 pub told-got : (v q : ℕ) (x : scan.Scan) → x ≡ scans.Got q → Got v q ≡ toldOf v x
 told-got v q x e = sym (ap (toldOf v) e)
 
@@ -218,7 +221,7 @@ module _ (s : List ℕ) (at b : ℕ) (e : b ≡ getD s at 0) where
       go : Dec (b < 48) → Dec (b < 50) → 0 ≡ digitOr (λ d. leb d 1) b
       go (yes l) m = rw (lt-leb 48 b l)
       go (no l) (yes m) = let q : b ≡ 48 = omega (arith, h) in rw q
-      go (no l) (no m) = rw (lt-leb (b - 48) 1 (omega arith), both-false (isDigit b))
+      go (no l) (no m) = rw (lt-leb (b - 48) 1 (omega arith), and-false (isDigit b))
 
   pub flag-none : (b ≡ 49 → ⊥) → (0 ≡ digitOr (λ d. leb d 1) (getD s at 0)) × (0 < 2)
   flag-none h = (flag-other h ∙ ap (digitOr (λ d. leb d 1)) e, omega arith)
@@ -231,7 +234,7 @@ module _ (k : ℕ) (s : List ℕ) (at b : ℕ) (e : b ≡ getD s at 0) where
   mode-low h = here 0 (rw (lt-leb 48 b h)) (omega arith)
 
   pub mode-high : 56 ≤ b → (0 ≡ digitOr (modeOk k) (getD s at 0)) × (0 < 8)
-  mode-high h = here 0 (rw (le-ltb (b - 48) 8 (omega arith), both-false (isDigit b))) (omega arith)
+  mode-high h = here 0 (rw (le-ltb (b - 48) 8 (omega arith), and-false (isDigit b))) (omega arith)
 
   module _ (l : 48 ≤ b) (h : b < 56) (a : Bool) (g : a ≡ allowed k (b - 48)) where
     mode-is : digitOr (modeOk k) b ≡ pick a (b - 48) 0

@@ -1,23 +1,21 @@
 -- What the readers of hexadecimal digits go by. Assumes nothing.
 use mathlib.Core.Path.{_≡_, refl, sym, ap, _∙_, subst, subst⁻¹}
-use mathlib.Core.List.{List, [], _∷_, _++_}
-use mathlib.Core.Bool.{Bool, true, false, not}
+use mathlib.Core.List.{List, [], _∷_}
+use mathlib.Core.Bool.{Bool, true, false, not, _&&_}
 use mathlib.Core.Logic.{_⊎_, inl, inr}
 use native.Mathlib.Nat.{add-zero}
 use native.Mathlib.Decide.{ℕ-discrete, decLt}
-use Prim.Native.Nat.{ℕ, zero, suc, _+_, _*_, _-_, _/_, _%_, _≤_, _<_}
+use Prim.Native.Nat.{ℕ, zero, suc, _+_, _*_, _-_, _%_, _≤_, _<_}
 use native.Mathlib.Omega.{arith}
 use borrow.Author.Tests.{eq-eqb, ne-eqb, lt-ltb, le-ltb, le-leb, lt-leb}
 use lib.ListN.{length, drop, getD, drop-of-length-le}
-use lib.Dec.{T, eqb, leb, ltb}
-use Rattle.record.specs.Format.{Answer, got, bad, pick, shared, Format, byte, byteRead, _▷_, via, closed, mapAnswer}
-use Rattle.record.specs.declared.piece.Num.{Num}
+use lib.Dec.{T, eqb, leb}
+use Rattle.record.specs.Format.{got, bad, pick, shared, Format, byte, byteRead, _▷_, via, mapAnswer}
 use Rattle.record.specs.declared.piece.Num.the-variants.{Got, Bad}
-use Rattle.record.specs.Answers.{shift, readAt, num, digitOk}
-use Rattle.record.specs.Number.{both, isDigit}
-use Rattle.record.specs.Half.{isHex, hexValue, hexOr, mayFollow, four, hexNumber, hexDigits, half}
-use Rattle.record.proofs.HalfLaws.{hex-back, follow-hex, isTrue}
-use Rattle.record.proofs.Numbers.{both-false}
+use Rattle.record.specs.Answers.{shift, readAt, num, hexOr, digitOk}
+use Rattle.record.specs.Half.{isHex, hexValue, mayFollow, four, hexNumber, hexDigits, half}
+use Rattle.record.proofs.HalfLaws.{hex-back, follow-hex}
+use Rattle.record.proofs.Numbers.{and-false}
 use Rattle.record.proofs.Shared.{shared-same, shared-other, shared-nil}
 use Rattle.record.proofs.SignPlaces.{inside}
 use Rattle.record.proofs.Places.{drop-here, shared-out}
@@ -46,10 +44,10 @@ module _ (s : List ℕ) (i : ℕ) where
 
 -- ---- digit_at
 
-second-of : (v w : ℕ) (t : List ℕ) → w ≡ hexOr (byteRead isHex t) → hexOr (byteRead (mayFollow v) t) ≡ pick (both (eqb (v % 8) 7) (leb 12 w)) 16 w
+second-of : (v w : ℕ) (t : List ℕ) → w ≡ hexOr (byteRead isHex t) → hexOr (byteRead (mayFollow v) t) ≡ pick (eqb (v % 8) 7 && leb 12 w) 16 w
 second-of v w [] e = rw e (go (eqb (v % 8) 7))
   where
-    go : (x : Bool) → _≡_ {A = ℕ} 16 (pick (both x true) 16 16)
+    go : (x : Bool) → _≡_ {A = ℕ} 16 (pick (x && true) 16 16)
     go true = refl
     go false = refl
 second-of v w (b ∷ t) e = go (isHex b) refl
@@ -62,19 +60,19 @@ second-of v w (b ∷ t) e = go (isHex b) refl
     same true = refl
     same false = refl
 
-    go : (x : Bool) → isHex b ≡ x → hexOr (byteRead (mayFollow v) (b ∷ t)) ≡ pick (both (eqb (v % 8) 7) (leb 12 w)) 16 w
+    go : (x : Bool) → isHex b ≡ x → hexOr (byteRead (mayFollow v) (b ∷ t)) ≡ pick (eqb (v % 8) 7 && leb 12 w) 16 w
     go true h =
         let q : w ≡ hexValue b = e ∙ rw h in
-        rw (q, h) (two (both (eqb (v % 8) 7) (leb 12 (hexValue b))))
+        rw (q, h) (two (eqb (v % 8) 7 && leb 12 (hexValue b)))
     go false h =
         let q : w ≡ 16 = e ∙ rw h in
-        rw (q, h) (same (both (eqb (v % 8) 7) true))
+        rw (q, h) (same (eqb (v % 8) 7 && true))
 
 module _ (k v w : ℕ) (s : List ℕ) (i : ℕ) (e : w ≡ hexOr (byteRead isHex (drop i s))) where
   pub kth-later : (k ≡ 1 → ⊥) → w ≡ hexOr (byteRead (digitOk k v) (drop i s))
   kth-later h = e ∙ rw (ne-eqb k 1 h)
 
-  kth-second : both (eqb (v % 8) 7) (leb 12 w) ≡ false → w ≡ hexOr (byteRead (digitOk k v) (drop i s))
+  kth-second : (eqb (v % 8) 7 && leb 12 w) ≡ false → w ≡ hexOr (byteRead (digitOk k v) (drop i s))
   kth-second h = go (ℕ-discrete k 1)
     where
       go : Dec (k ≡ 1) → w ≡ hexOr (byteRead (digitOk k v) (drop i s))
@@ -82,7 +80,7 @@ module _ (k v w : ℕ) (s : List ℕ) (i : ℕ) (e : w ≡ hexOr (byteRead isHex
       go (no q) = kth-later q
 
   pub kth-low : w < 12 → w ≡ hexOr (byteRead (digitOk k v) (drop i s))
-  kth-low h = kth-second (rw (lt-leb 12 w h) (both-false (eqb (v % 8) 7)))
+  kth-low h = kth-second (rw (lt-leb 12 w h) (and-false (eqb (v % 8) 7)))
 
   pub kth-free : (v % 8 ≡ 7 → ⊥) → w ≡ hexOr (byteRead (digitOk k v) (drop i s))
   kth-free h = kth-second (rw (ne-eqb (v % 8) 7 h))

@@ -1,18 +1,18 @@
 -- What follows from a format's laws, and that each way of joining formats keeps them. Assumes nothing.
-use mathlib.Core.Path.{_≡_, refl, sym, ap, _∙_, subst, subst⁻¹}
+use mathlib.Core.Path.{_≡_, refl, sym, ap, _∙_, subst}
 use mathlib.Core.List.{List, [], _∷_, _++_, append-assoc, append-nil, append-cancel-left}
 use mathlib.Core.Bool.{Bool, true, false}
 use mathlib.Core.Logic.{_⊎_, inl, inr}
-use Prim.Native.Nat.{ℕ, zero, suc, _+_, _-_, _≤_, _<_, zero-le, suc-le-suc}
-use native.Mathlib.Nat.{le-of-suc-le-suc, not-suc-le-zero, zero-add, suc-add, le-refl, le-trans, add-zero}
-use native.Mathlib.Decide.{ℕ-discrete, decLt, decLe}
+use Prim.Native.Nat.{ℕ, _+_, _-_, _≤_, _<_}
+use native.Mathlib.Nat.{not-suc-le-zero, le-trans, add-zero}
+use native.Mathlib.Decide.{ℕ-discrete, decLt}
 use native.Mathlib.Omega.{arith}
-use borrow.Author.Tests.{eq-eqb, ne-eqb, le-leb, lt-leb, leb-true, leb-false, ltb-true, ltb-false, lt-ltb, le-ltb}
-use lib.ListN.{length, drop, getD, length-append, drop-of-length-le}
-use lib.Seq.{drop-append-seam, drop-at, drop-drop, drop-length}
-use lib.Dec.{T, eqb, leb, ltb}
-use Rattle.record.specs.Format.{Answer, got, bad, pick, shared, Format, Lawful, Longest, lit, byte, byteRead, afterwards, andThen, _▷_, mapAnswer, via, nothing, uncons, seqs, choose, after, closed, Reading, done, text, wholeOf, whole}
-use Rattle.record.proofs.Shared.{shared-same, shared-other, shared-comm, shared-le-left, shared-le-right, shared-append, shared-more, begins, begins-with, shared-parts}
+use borrow.Author.Tests.{ne-eqb, le-leb, lt-leb}
+use lib.ListN.{length, drop, getD, length-append}
+use lib.Seq.{drop-append-seam, drop-drop}
+use lib.Dec.{T}
+use Rattle.record.specs.Format.{Answer, got, bad, pick, shared, Format, Lawful, Longest, lit, byte, byteRead, afterwards, _▷_, mapAnswer, via, nothing, uncons, seqs, choose, after, closed}
+use Rattle.record.proofs.Shared.{shared-comm, shared-append, shared-more, begins, begins-with, shared-parts}
 
 pub got-bad : {A : Type 0} {a : A} {n m : ℕ} → got a n ≡ bad m → ⊥
 got-bad {a = a} {n = n} {m = m} e = let z : _≡_ {A = ℕ} 0 1 = cc in omega arith
@@ -24,9 +24,6 @@ module _ {A : Type 0} (F : Format A) (L : Lawful F) where
       let p : got a (length (F .write a)) ≡ got b (length (F .write b)) = sym (L .there a s oa) ∙ ap (F .read) e ∙ L .there b t ob in
       let q : a ≡ b = cc in
       (q, append-cancel-left (F .write b) s t (subst (λ (x : A). F .write x ++ s ≡ F .write b ++ t) q e))
-
-  pub injective : (a b : A) → F .Ok a → F .Ok b → F .write a ≡ F .write b → a ≡ b
-  injective a b oa ob e = cancel a b [] [] oa ob (ap (λ (w : List ℕ). w ++ []) e) .0
 
   pub no-beginning : (a b : A) (t : List ℕ) → F .Ok a → F .Ok b → F .write a ++ t ≡ F .write b → a ≡ b
   no-beginning a b t oa ob e = cancel a b t [] oa ob (e ∙ sym (append-nil (F .write b))) .0
@@ -411,59 +408,6 @@ after-lawful w F L = via-lawful (λ p. p .1) (λ a. (tt, a)) (lit w ▷ λ u. F)
 
 pub closed-lawful : {A : Type 0} (w : List ℕ) (F : Format A) → Lawful F → Lawful (closed w F)
 closed-lawful w F L = via-lawful (λ p. p .0) (λ a. (a, tt)) (F ▷ λ a. lit w) (λ a o. refl) (then-lawful F (λ a. lit w) L (λ a o. lit-lawful w))
-
--- ---- a whole text
-
-module _ {A : Type 0} (F : Format A) (L : Lawful F) where
-  -- a text of a value, and no other text, reads as that value
-  pub whole-writes : (a : A) → F .Ok a → whole F (F .write a) ≡ done a
-  whole-writes a o =
-      let e : F .read (F .write a) ≡ got a (length (F .write a)) = ap (F .read) (sym (append-nil (F .write a))) ∙ L .there a [] o in
-      rw (e, le-ltb (length (F .write a)) (length (F .write a)) (le-refl (length (F .write a))))
-
-  pub whole-done : (s : List ℕ) (a : A) → whole F s ≡ done a → F .Ok a × (s ≡ F .write a)
-  whole-done s a e = go (F .read s) refl
-    where
-      two : (b : A) (n : ℕ) → F .read s ≡ got b n → (v : Bool) → ltb n (length s) ≡ v → whole F s ≡ pick v (text n) (done b) → F .Ok a × (s ≡ F .write a)
-      two b n h true k q = absurd (let z : _≡_ {A = ℕ} 0 1 = cc in omega arith)
-      two b n h false k q =
-          let z : b ≡ a = cc in
-          let x : F .Ok b × (s ≡ F .write b ++ drop n s) × (n ≡ length (F .write b)) = L .back s b n h in
-          let d : drop n s ≡ [] = drop-of-length-le s (ltb-false n (length s) k) in
-          subst (λ (y : A). F .Ok y × (s ≡ F .write y)) z (x .0, x .1 ∙ ap (λ (w : List ℕ). F .write b ++ w) d ∙ append-nil (F .write b))
-
-      go : (r : Answer A) → F .read s ≡ r → F .Ok a × (s ≡ F .write a)
-      go (bad n) h = absurd (let q : _≡_ {A = Reading A} (text n) (done a) = sym (ap (wholeOf (length s)) h) ∙ e in let z : _≡_ {A = ℕ} 0 1 = cc in omega arith)
-      go (got b n) h = two b n h (ltb n (length s)) refl (ap (wholeOf (length s)) h)
-
-  -- a writing that is followed by more shares its own length with the text, and no writing shares more
-  followed : (s : List ℕ) (b : A) (n : ℕ) → F .read s ≡ got b n → Longest F s n
-  followed s b n h =
-      let x : F .Ok b × (s ≡ F .write b ++ drop n s) × (n ≡ length (F .write b)) = L .back s b n h in
-      record {
-        reached = (b, x .0, ap (λ (w : List ℕ). shared w (F .write b)) (x .1) ∙ omega (arith, lit-whole (F .write b) (drop n s), shared-le-right (F .write b ++ drop n s) (F .write b), x .2));
-        most = λ a o. go x a o (decLt n (shared s (F .write a)));
-      }
-    where
-      go : F .Ok b × (s ≡ F .write b ++ drop n s) × (n ≡ length (F .write b)) → (a : A) → F .Ok a → Dec (n < shared s (F .write a)) → shared s (F .write a) ≤ n
-      go x a o (no l) = omega arith
-      go x a o (yes l) =
-          let l2 : n < shared (F .write b ++ drop n s) (F .write a) = subst (λ (w : List ℕ). n < shared w (F .write a)) (x .1) l in
-          let e : F .write a ≡ F .write b ++ drop (length (F .write b)) (F .write a) = begins (F .write b) (drop n s) (F .write a) (omega (arith, x .2)) in
-          let q : b ≡ a = no-beginning F L b a (drop (length (F .write b)) (F .write a)) (x .0) o (sym e) in
-          omega (arith, shared-le-right s (F .write a), x .2, ap (λ (y : A). length (F .write y)) q)
-
-  -- a refusal: no value is written so, and the number is the longest beginning shared
-  pub whole-text : (s : List ℕ) (n : ℕ) → whole F s ≡ text n → Longest F s n × ((a : A) → F .Ok a → F .write a ≡ s → ⊥)
-  whole-text s n e = (go (F .read s) refl, λ a o k. (let q : _≡_ {A = Reading A} (text n) (done a) = sym e ∙ ap (whole F) (sym k) ∙ whole-writes a o in let z : _≡_ {A = ℕ} 0 1 = cc in omega arith))
-    where
-      two : (b : A) (m : ℕ) → F .read s ≡ got b m → (v : Bool) → ltb m (length s) ≡ v → whole F s ≡ pick v (text m) (done b) → Longest F s n
-      two b m h true k q = let z : m ≡ n = cc in subst (Longest F s) z (followed s b m h)
-      two b m h false k q = absurd (let z : _≡_ {A = ℕ} 0 1 = cc in omega arith)
-
-      go : (r : Answer A) → F .read s ≡ r → Longest F s n
-      go (bad m) h = let q : _≡_ {A = Reading A} (text m) (text n) = sym (ap (wholeOf (length s)) h) ∙ e in let z : m ≡ n = cc in subst (Longest F s) z (refused F L s m h)
-      go (got b m) h = two b m h (ltb m (length s)) refl (ap (wholeOf (length s)) h)
 
 -- the longest beginning is one number
 pub longest-one : {A : Type 0} (F : Format A) (s : List ℕ) (n m : ℕ) → Longest F s n → Longest F s m → n ≡ m

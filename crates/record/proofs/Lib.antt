@@ -13,7 +13,6 @@ pub mod SignPlaces
 pub mod Stores
 pub mod SampleStores
 pub mod ItemStores
-pub mod Examples
 pub mod RowLaws
 pub mod KindPlaces
 pub mod FlatLaws
@@ -26,9 +25,3 @@ pub mod OkLaws
 pub mod LineStores
 pub mod KindStores
 pub mod SetStores
-pub mod DefaultRows
-pub mod AllowedOk
-pub mod Theorems
-pub mod ReadBack
-pub mod OkAllowed
-pub mod SetAllowed

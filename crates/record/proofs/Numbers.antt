@@ -1,20 +1,21 @@
 -- The laws of decimal numbers. Assumes nothing.
-use mathlib.Core.Path.{_≡_, refl, sym, ap, _∙_, subst, subst⁻¹}
-use mathlib.Core.List.{List, [], _∷_, _++_, append-assoc, append-nil}
-use mathlib.Core.Bool.{Bool, true, false}
-use Prim.Native.Nat.{ℕ, zero, suc, _+_, _*_, _-_, _/_, _%_, _≤_, _<_, zero-le, suc-le-suc}
-use native.Mathlib.Nat.{le-of-suc-le-suc, not-suc-le-zero, zero-add, suc-add, add-zero}
-use native.Mathlib.Decide.{ℕ-discrete, decLt, decLe}
+use mathlib.Core.Path.{_≡_, refl, sym, ap, _∙_, subst}
+use mathlib.Core.List.{List, [], _∷_, _++_, append-assoc}
+use mathlib.Core.Bool.{Bool, true, false, _&&_}
+use Prim.Native.Nat.{ℕ, zero, suc, _+_, _*_, _-_, _/_, _%_, _≤_, _<_, zero-le}
+use native.Mathlib.Nat.{not-suc-le-zero}
+use native.Mathlib.Decide.{ℕ-discrete}
 use native.Mathlib.Omega.{arith}
-use borrow.Author.Tests.{eq-eqb, ne-eqb, le-leb, lt-leb, lt-ltb, le-ltb, leb-true, leb-false, ltb-true, eqb-true}
+use borrow.Author.Tests.{eq-eqb, ne-eqb, le-leb, lt-ltb, leb-true, ltb-true, eqb-true}
 use lib.ListN.{length, drop, length-append}
-use lib.Seq.{drop-at, drop-append-seam}
-use lib.Dec.{T, eqb, leb, ltb}
-use Rattle.record.specs.Format.{Answer, got, bad, pick, shared, Format, Lawful}
+use lib.Seq.{drop-at}
+use lib.Dec.{eqb, leb, ltb}
+use Rattle.params.proofs.AllowedLaws.{and-true}
+use Rattle.record.specs.Format.{Answer, got, bad, pick, shared, Lawful}
 use Rattle.record.specs.declared.piece.Step.{Step}
 use Rattle.record.specs.declared.piece.Step.the-variants.{Ended as ended, Stuck as stuck, On as on}
-use Rattle.record.specs.Number.{digitsIn, digits, both, isDigit, within, next, numberFrom, number}
-use Rattle.record.proofs.Shared.{shared-append, shared-le-left, shared-same, shared-other}
+use Rattle.record.specs.Number.{digitsIn, digits, isDigit, within, next, numberFrom, number}
+use Rattle.record.proofs.Shared.{shared-append, shared-same, shared-other}
 use Rattle.record.proofs.Laws.{got-bad}
 
 -- ---- digits
@@ -58,50 +59,46 @@ digits-push m d h k =
 
 -- ---- the next byte
 
-pub T-both : (a b : Bool) → both a b ≡ true → (a ≡ true) × (b ≡ true)
-T-both true b e = (refl, e)
-T-both false b e = absurd (let z : _≡_ {A = ℕ} 0 1 = cc in omega arith)
-
-pub both-false : (a : Bool) → both a false ≡ false
-both-false true = refl
-both-false false = refl
+pub and-false : (a : Bool) → (a && false) ≡ false
+and-false true = refl
+and-false false = refl
 
 module _ (limit end : ℕ) where
   -- a byte that goes on is a digit
   pub next-on : (m b k : ℕ) → next limit end m b ≡ on k → (48 ≤ b) × (b < 58) × (k ≡ m * 10 + (b - 48)) × (1 ≤ k) × (k ≤ limit)
-  next-on m b k e = one (both (ltb 0 m) (eqb b end)) refl
+  next-on m b k e = one (ltb 0 m && eqb b end) refl
     where
       test : Bool
-      test = both (isDigit b) (within limit (m * 10 + (b - 48)))
+      test = isDigit b && within limit (m * 10 + (b - 48))
 
       two : (v : Bool) → test ≡ v → pick v (on (m * 10 + (b - 48))) stuck ≡ on k → (48 ≤ b) × (b < 58) × (k ≡ m * 10 + (b - 48)) × (1 ≤ k) × (k ≤ limit)
       two true h q =
           let z : k ≡ m * 10 + (b - 48) = cc in
-          let t : (isDigit b ≡ true) × (within limit (m * 10 + (b - 48)) ≡ true) = T-both (isDigit b) (within limit (m * 10 + (b - 48))) h in
-          let u : (leb 48 b ≡ true) × (ltb b 58 ≡ true) = T-both (leb 48 b) (ltb b 58) (t .0) in
-          let w : (ltb 0 (m * 10 + (b - 48)) ≡ true) × (leb (m * 10 + (b - 48)) limit ≡ true) = T-both (ltb 0 (m * 10 + (b - 48))) (leb (m * 10 + (b - 48)) limit) (t .1) in
+          let t : (isDigit b ≡ true) × (within limit (m * 10 + (b - 48)) ≡ true) = and-true (isDigit b) (within limit (m * 10 + (b - 48))) h in
+          let u : (leb 48 b ≡ true) × (ltb b 58 ≡ true) = and-true (leb 48 b) (ltb b 58) (t .0) in
+          let w : (ltb 0 (m * 10 + (b - 48)) ≡ true) × (leb (m * 10 + (b - 48)) limit ≡ true) = and-true (ltb 0 (m * 10 + (b - 48))) (leb (m * 10 + (b - 48)) limit) (t .1) in
           (leb-true 48 b (u .0), ltb-true b 58 (u .1), z, omega (arith, ltb-true 0 (m * 10 + (b - 48)) (w .0)), omega (arith, leb-true (m * 10 + (b - 48)) limit (w .1)))
       two false h q = absurd (let z : _≡_ {A = ℕ} 0 1 = cc in omega arith)
 
-      one : (v : Bool) → both (ltb 0 m) (eqb b end) ≡ v → (48 ≤ b) × (b < 58) × (k ≡ m * 10 + (b - 48)) × (1 ≤ k) × (k ≤ limit)
+      one : (v : Bool) → (ltb 0 m && eqb b end) ≡ v → (48 ≤ b) × (b < 58) × (k ≡ m * 10 + (b - 48)) × (1 ≤ k) × (k ≤ limit)
       one true h = absurd (let g : ended ≡ on k = sym (ap (λ (v : Bool). pick v ended (pick test (on (m * 10 + (b - 48))) stuck)) h) ∙ e in let z : _≡_ {A = ℕ} 0 1 = cc in omega arith)
       one false h = two test refl (sym (ap (λ (v : Bool). pick v ended (pick test (on (m * 10 + (b - 48))) stuck)) h) ∙ e)
 
   pub next-ended : (m b : ℕ) → next limit end m b ≡ ended → (1 ≤ m) × (b ≡ end)
-  next-ended m b e = one (both (ltb 0 m) (eqb b end)) refl
+  next-ended m b e = one (ltb 0 m && eqb b end) refl
     where
       rest : Step
-      rest = pick (both (isDigit b) (within limit (m * 10 + (b - 48)))) (on (m * 10 + (b - 48))) stuck
+      rest = pick (isDigit b && within limit (m * 10 + (b - 48))) (on (m * 10 + (b - 48))) stuck
 
       two : (v : Bool) → pick v (on (m * 10 + (b - 48))) stuck ≡ ended → ⊥
       two true q = let z : _≡_ {A = ℕ} 0 1 = cc in omega arith
       two false q = let z : _≡_ {A = ℕ} 0 1 = cc in omega arith
 
-      one : (v : Bool) → both (ltb 0 m) (eqb b end) ≡ v → (1 ≤ m) × (b ≡ end)
+      one : (v : Bool) → (ltb 0 m && eqb b end) ≡ v → (1 ≤ m) × (b ≡ end)
       one true h =
-          let t : (ltb 0 m ≡ true) × (eqb b end ≡ true) = T-both (ltb 0 m) (eqb b end) h in
+          let t : (ltb 0 m ≡ true) × (eqb b end ≡ true) = and-true (ltb 0 m) (eqb b end) h in
           (ltb-true 0 m (t .0), eqb-true b end (t .1))
-      one false h = absurd (two (both (isDigit b) (within limit (m * 10 + (b - 48)))) (sym (ap (λ (v : Bool). pick v ended rest) h) ∙ e))
+      one false h = absurd (two (isDigit b && within limit (m * 10 + (b - 48))) (sym (ap (λ (v : Bool). pick v ended rest) h) ∙ e))
 
   pub next-end : (m : ℕ) → 1 ≤ m → next limit end m end ≡ ended
   next-end m h = rw (lt-ltb 0 m h, eq-eqb end end refl)
@@ -110,7 +107,7 @@ module _ (limit end : ℕ) where
   pub next-digit : (m d : ℕ) → (end < 48) → d < 10 → 1 ≤ m * 10 + d → m * 10 + d ≤ limit → next limit end m (48 + d) ≡ on (m * 10 + d)
   next-digit m d h k l u =
       let q : 48 + d - 48 ≡ d = omega arith in
-      rw (q, ne-eqb (48 + d) end (λ e. omega arith), both-false (ltb 0 m), le-leb 48 (48 + d) (omega arith), lt-ltb (48 + d) 58 (omega arith), lt-ltb 0 (m * 10 + d) l, le-leb (m * 10 + d) limit u)
+      rw (q, ne-eqb (48 + d) end (λ e. omega arith), and-false (ltb 0 m), le-leb 48 (48 + d) (omega arith), lt-ltb (48 + d) 58 (omega arith), lt-ltb 0 (m * 10 + d) l, le-leb (m * 10 + d) limit u)
 
   -- ---- from a number so far
 

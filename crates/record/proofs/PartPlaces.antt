@@ -1,39 +1,39 @@
 -- What the readers of a kind's parts, of its entry and of its row go by. Assumes nothing.
 use mathlib.Core.Path.{_≡_, refl, sym, ap, _∙_, subst, subst⁻¹}
 use mathlib.Core.List.{List, [], _∷_, _++_}
-use mathlib.Core.Bool.{Bool, true, false}
-use Prim.Native.Nat.{ℕ, zero, suc, _+_, _*_, _-_, _≤_, _<_, zero-le}
-use native.Mathlib.Nat.{zero-add, le-of-suc-le-suc, not-suc-le-zero}
+use mathlib.Core.Bool.{true, _&&_}
+use Prim.Native.Nat.{ℕ, zero, suc, _+_, _*_, _-_, _≤_, _<_}
+use native.Mathlib.Nat.{zero-add}
 use native.Mathlib.Decide.{ℕ-discrete}
 use native.Mathlib.Omega.{arith}
 use borrow.Author.Tests.{eq-eqb, ne-eqb, ltb-true}
 use lib.IntN.{ℤ, pos}
 use lib.ListN.{length, getD, set, drop, replicate, length-replicate}
 use lib.Seq.{sets, sets-eq, getD-set-same, getD-set-other}
-use lib.Dec.{T, eqb, leb, ltb}
+use lib.Dec.{ltb}
 use Rattle.transform.specs.Kinds.{placesOf, startOf}
 use Rattle.transform.proofs.Laws.{end-le}
 use Rattle.params.specs.Row.{fixed, lists, allowed}
-use Rattle.record.specs.Format.{Answer, got, bad, pick, Format, Lawful, _▷_, mapAnswer}
+use Rattle.params.proofs.AllowedLaws.{and-true}
+use Rattle.record.specs.Format.{Answer, got, bad, Format, _▷_, mapAnswer}
 use Rattle.record.specs.declared.piece.Num.{Num}
 use Rattle.record.specs.declared.piece.Num.the-variants.{Got, Bad}
 use Rattle.record.specs.declared.piece.Scan as scan
 use Rattle.record.specs.declared.piece.Scan.the-variants as scans
 use Rattle.record.specs.Text.{bytes}
-use Rattle.record.specs.Number.{both, isDigit, number, signed}
+use Rattle.record.specs.Number.{isDigit, number, signed}
 use Rattle.record.specs.Half.{half}
-use Rattle.record.specs.Record.{Entry, line, digit, modeOk, numberCount, sampleCount, modeLines, parts, entry}
-use Rattle.record.specs.Rows.{Row, slots, rowOf, entryOf, rowFormat}
+use Rattle.record.specs.Record.{Entry, line, modeOk, numberCount, sampleCount, modeLines, parts, entry}
+use Rattle.record.specs.Rows.{slots, rowOf, entryOf, rowFormat}
 use Rattle.record.specs.Answers.{readAt, num, seen, Fresh, PartsStored, EntryStored, RowStored}
 use Rattle.record.proofs.Laws.{got-bad}
-use Rattle.record.proofs.Numbers.{T-both}
 use Rattle.record.proofs.HalfLaws.{isTrue}
 use Rattle.record.proofs.Positions.{read-via, read-within, first-refuses, second-refuses, both-read}
 use Rattle.record.proofs.ItemPlaces.{num-got, num-bad}
 use Rattle.record.proofs.Records.{lines-lawful, bands-lawful, numbers-lawful, entry-lawful}
 use Rattle.record.proofs.RowLaws.{line-length, two-at-most}
 use Rattle.record.proofs.FlatLaws.{slots-short}
-use Rattle.record.proofs.Framed.{seen-got, seen-bad, seen-within, num-within}
+use Rattle.record.proofs.Framed.{seen-got, seen-bad, seen-within}
 
 -- ---- a reader's debt: the position, and what is stored where the value is read
 
@@ -149,8 +149,8 @@ part-fits k m n e = go (ℕ-discrete m 7)
 -- a mode that was read is below 8
 pub mode-small : (k m : ℕ) → modeLines k .Ok m → m < 8
 mode-small k m o =
-    let t : (isDigit (48 + m) ≡ true) × (modeOk k (48 + m - 48) ≡ true) = T-both (isDigit (48 + m)) (modeOk k (48 + m - 48)) (isTrue (both (isDigit (48 + m)) (modeOk k (48 + m - 48))) (o .0 .0 .0 .1 .0)) in
-    let u : (ltb (48 + m - 48) 8 ≡ true) × (allowed k (48 + m - 48) ≡ true) = T-both (ltb (48 + m - 48) 8) (allowed k (48 + m - 48)) (t .1) in
+    let t : (isDigit (48 + m) ≡ true) × (modeOk k (48 + m - 48) ≡ true) = and-true (isDigit (48 + m)) (modeOk k (48 + m - 48)) (isTrue (isDigit (48 + m) && modeOk k (48 + m - 48)) (o .0 .0 .0 .1 .0)) in
+    let u : (ltb (48 + m - 48) 8 ≡ true) × (allowed k (48 + m - 48) ≡ true) = and-true (ltb (48 + m - 48) 8) (allowed k (48 + m - 48)) (t .1) in
     omega (arith, ltb-true (48 + m - 48) 8 (u .0))
 
 module _ (s : List ℕ) (at k : ℕ) (r : Num) (e : r ≡ num (readAt (modeLines k) s at)) where
@@ -188,9 +188,6 @@ pub drop-zeros : (n m : ℕ) → drop n (replicate {A = ℕ} m 0) ≡ replicate 
 drop-zeros zero m = let q : m ≡ m - 0 = omega arith in ap (λ (k : ℕ). replicate {A = ℕ} k 0) q
 drop-zeros (suc n) zero = let q : 0 ≡ 0 - suc n = omega arith in ap (λ (k : ℕ). replicate {A = ℕ} k 0) q
 drop-zeros (suc n) (suc m) = let q : m - n ≡ suc m - suc n = omega arith in drop-zeros n m ∙ ap (λ (k : ℕ). replicate {A = ℕ} k 0) q
-
-pub fresh-zeros : Fresh (replicate 128 0)
-fresh-zeros = record { long = length-replicate {A = ℕ} 128 0; first = refl; second = refl }
 
 start-row : (m : ℕ) (c : List ℕ) → length c ≤ 2 → sets (set (replicate 128 0) 0 m) 1 c ≡ m ∷ getD c 0 0 ∷ getD c 1 0 ∷ replicate 125 0
 start-row m [] h = refl

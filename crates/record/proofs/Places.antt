@@ -1,25 +1,24 @@
 -- What the readers' loops go by: texts at positions. Assumes nothing.
-use mathlib.Core.Path.{_≡_, refl, sym, ap, _∙_, subst, subst⁻¹}
-use mathlib.Core.List.{List, [], _∷_, _++_}
-use mathlib.Core.Bool.{Bool, true, false}
+use mathlib.Core.Path.{_≡_, refl, sym, ap, _∙_}
+use mathlib.Core.List.{List, [], _∷_}
+use mathlib.Core.Bool.{_&&_}
 use Prim.Native.Nat.{ℕ, zero, suc, _+_, _*_, _-_, _≤_, _<_}
-use native.Mathlib.Nat.{add-suc, add-zero}
+use native.Mathlib.Nat.{add-zero}
 use native.Mathlib.Numerals.{add-one}
 use native.Mathlib.Omega.{arith}
-use borrow.Author.Tests.{eq-eqb, ne-eqb, lt-ltb, le-ltb, le-leb, lt-leb}
+use borrow.Author.Tests.{ne-eqb, lt-ltb, le-ltb, le-leb, lt-leb}
 use lib.ListN.{length, drop, getD, drop-of-length-le}
-use lib.Seq.{drop-cons, drop-drop}
-use lib.Dec.{eqb, leb, ltb}
-use Rattle.record.specs.Format.{Answer, got, bad, pick, shared, Format, Lawful}
+use lib.Seq.{drop-cons}
+use lib.Dec.{ltb}
+use Rattle.record.specs.Format.{got, bad, pick, shared}
 use Rattle.record.specs.declared.piece.Step.{Step}
 use Rattle.record.specs.declared.piece.Step.the-variants.{Ended as ended, Stuck as stuck, On as on}
-use Rattle.record.specs.declared.piece.Num.{Num}
 use Rattle.record.specs.declared.piece.Num.the-variants.{Got, Bad}
 use Rattle.record.specs.Answers.{shift, readAt, num}
-use Rattle.record.specs.Number.{both, isDigit, within, next, numberFrom, number}
+use Rattle.record.specs.Number.{isDigit, within, next, numberFrom, number}
 use Rattle.record.specs.Record.{endOf}
 use Rattle.record.proofs.Shared.{shared-same, shared-other, shared-comm}
-use Rattle.record.proofs.Numbers.{both-false, from-ended, from-stuck, from-on, next-end, next-on}
+use Rattle.record.proofs.Numbers.{and-false, from-ended, from-stuck, from-on, next-end, next-on}
 
 -- a text that goes on at j
 pub drop-here : (s : List ℕ) (j : ℕ) → j < length s → drop j s ≡ getD s j 0 ∷ drop (j + 1) s
@@ -39,8 +38,8 @@ shared-end s w j i h k e = rw (drop-here s j h, drop-here w i k) (shared-other (
 -- ---- the next byte
 
 module _ (limit end m b : ℕ) where
-  next-none : (b ≡ end → ⊥) → next limit end m b ≡ pick (both (isDigit b) (within limit (m * 10 + (b - 48)))) (on (m * 10 + (b - 48))) stuck
-  next-none h = rw (ne-eqb b end h, both-false (ltb 0 m))
+  next-none : (b ≡ end → ⊥) → next limit end m b ≡ pick (isDigit b && within limit (m * 10 + (b - 48))) (on (m * 10 + (b - 48))) stuck
+  next-none h = rw (ne-eqb b end h, and-false (ltb 0 m))
 
   pub next-last : b ≡ end → 0 < m → next limit end m b ≡ ended
   next-last e k = rw e (next-end limit end m k)

@@ -1,13 +1,13 @@
 -- What the writers go by: bytes stored one after the other. Assumes nothing.
-use mathlib.Core.Path.{_≡_, refl, sym, ap, _∙_, subst, subst⁻¹}
-use mathlib.Core.List.{List, [], _∷_, _++_, append-nil}
-use Prim.Native.Nat.{ℕ, zero, suc, _+_, _*_, _-_, _/_, _%_, _≤_, _<_}
+use mathlib.Core.Path.{_≡_, refl, sym, ap, _∙_}
+use mathlib.Core.List.{List, [], _∷_, _++_}
+use Prim.Native.Nat.{ℕ, zero, suc, _+_, _-_, _/_, _%_, _≤_, _<_}
 use native.Mathlib.Nat.{add-zero}
 use native.Mathlib.Numerals.{add-one}
 use native.Mathlib.Decide.{ℕ-discrete}
 use native.Mathlib.Omega.{arith}
-use lib.ListN.{length, drop, take, getD, set, length-append, length-set, length-take}
-use lib.Seq.{sets, length-sets, take-suc, take-length, length-take-le, take-all}
+use lib.ListN.{length, take, getD, set, length-append}
+use lib.Seq.{sets, length-sets, take-suc, length-take-le, take-all}
 use Rattle.record.specs.Number.{digits}
 use Rattle.record.proofs.Numbers.{digits-zero, digits-last}
 use Rattle.record.proofs.ItemPlaces.{sets-snoc}
@@ -79,6 +79,3 @@ digits-more o o₁ o₂ at n p h k e g =
 -- a store keeps the length
 pub sets-length : (o o₀ : List ℕ) (at : ℕ) (w : List ℕ) → o ≡ sets o₀ at w → length o ≡ length o₀
 sets-length o o₀ at w e = ap length e ∙ length-sets o₀ at w
-
-pub set-length : (o o₁ o₀ : List ℕ) (p b : ℕ) → o ≡ set o₁ p b → length o₁ ≡ length o₀ → length o ≡ length o₀
-set-length o o₁ o₀ p b e h = ap length e ∙ length-set o₁ p b ∙ h

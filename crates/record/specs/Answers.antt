@@ -1,7 +1,7 @@
 -- Views that only contracts of private functions need: a format read at a position of a text, and its answer as the enum that the code gives. Assumes nothing.
 use mathlib.Core.Path.{_≡_}
 use mathlib.Core.List.{List}
-use mathlib.Core.Bool.{Bool}
+use mathlib.Core.Bool.{Bool, _&&_}
 use Prim.Native.Nat.{ℕ, _+_, _-_, _*_}
 use lib.IntN.{ℤ}
 use lib.ListN.{length, getD, set, drop}
@@ -13,8 +13,8 @@ use Rattle.record.specs.Rows.{Row}
 use Rattle.record.specs.Flat.{Flat, joinRows, samplesOf}
 use Rattle.record.specs.Description.{storeParts}
 use Rattle.record.specs.Format.{Answer, got, bad, pick, Format}
-use Rattle.record.specs.Number.{both, isDigit, number}
-use Rattle.record.specs.Half.{isHex, mayFollow, half}
+use Rattle.record.specs.Number.{isDigit, number}
+use Rattle.record.specs.Half.{isHex, hexValue, mayFollow, half}
 use Rattle.record.specs.Text.{bytes}
 use Rattle.record.specs.declared.piece.Num.{Num}
 use Rattle.record.specs.declared.piece.Num.the-variants.{Got, Bad}
@@ -54,16 +54,22 @@ toldOf v (scans.Bad n) = Bad n
 
 -- the digit that a byte is, or 0 where it is none of some
 abbrev pub digitOr : (ℕ → Bool) → ℕ → ℕ
-digitOr ok b = pick (both (isDigit b) (ok (b - 48))) (b - 48) 0
+digitOr ok b = pick (isDigit b && ok (b - 48)) (b - 48) 0
+
+-- the value of the digit that a text begins with, or 16
+abbrev pub hexOr : Answer ℕ → ℕ
+hexOr (got b n) = hexValue b
+hexOr (bad n) = 16
 
 -- what digit k of a half float may be, where those before it have the value v
 abbrev pub digitOk : ℕ → ℕ → ℕ → Bool
 digitOk k v = pick (eqb k 1) (mayFollow v) isHex
 
--- a band count or a half float, and the name of the line
+-- a band count or a half float
 abbrev pub slot : Bool → ℕ → Format ℕ
 slot hex end = pick hex (half end) (number 16 end)
 
+-- the name of their line
 abbrev pub slotName : Bool → List ℕ
 slotName hex = pick hex (bytes "numbers=") (bytes "bands=")
 

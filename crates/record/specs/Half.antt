@@ -1,15 +1,15 @@
 -- Four lower-case hexadecimal digits of a half float that is finite. Assumes nothing.
 use mathlib.Core.Path.{_≡_}
 use mathlib.Core.List.{List, [], _∷_, _++_}
-use mathlib.Core.Bool.{Bool, true, false, not}
+use mathlib.Core.Bool.{Bool, true, false, not, _&&_}
 use Prim.Native.Nat.{ℕ, zero, suc, _+_, _*_, _-_, _/_, _%_, _≤_, _<_}
 use lib.Dec.{T, eqb, leb, ltb}
 use Rattle.record.specs.Format.{Answer, got, bad, pick, Format, lit, byte, _▷_, via, closed}
-use Rattle.record.specs.Number.{both, isDigit}
+use Rattle.record.specs.Number.{isDigit}
 
 -- the bytes 0 to 9 and a to f
 abbrev pub isHex : ℕ → Bool
-isHex b = pick (isDigit b) true (both (leb 97 b) (ltb b 103))
+isHex b = pick (isDigit b) true (leb 97 b && ltb b 103)
 
 -- the value of such a byte
 abbrev pub hexValue : ℕ → ℕ
@@ -21,7 +21,7 @@ hexByte n = pick (ltb n 10) (48 + n) (87 + n)
 
 -- after a first digit of value v whose last three bits are ones, the next does not begin with two ones: the exponent is not 31
 abbrev pub mayFollow : ℕ → ℕ → Bool
-mayFollow v b = both (isHex b) (not (both (eqb (v % 8) 7) (leb 12 (hexValue b))))
+mayFollow v b = isHex b && not (eqb (v % 8) 7 && leb 12 (hexValue b))
 
 -- four of them, the second by the first
 abbrev pub four : Format (ℕ × (ℕ × (ℕ × ℕ)))
@@ -38,11 +38,6 @@ hexDigits n = (hexByte (n / 4096), (hexByte (n / 256 % 16), (hexByte (n / 16 % 1
 -- a finite half float, closed by the byte end
 abbrev pub half : ℕ → Format ℕ
 half end = closed (end ∷ []) (via hexNumber hexDigits four)
-
--- the value of the digit that a text begins with, or 16
-abbrev pub hexOr : Answer ℕ → ℕ
-hexOr (got b n) = hexValue b
-hexOr (bad n) = 16
 
 -- a half float that is finite: 16 bits, and the exponent is not 31
 pub record Finite (n : ℕ) : Type 0 where

@@ -1,7 +1,7 @@
 -- Decimal numbers: no plus, no leading zero. Assumes nothing.
 use mathlib.Core.Path.{_≡_}
 use mathlib.Core.List.{List, [], _∷_, _++_}
-use mathlib.Core.Bool.{Bool, true, false}
+use mathlib.Core.Bool.{Bool, true, false, _&&_}
 use Prim.Native.Nat.{ℕ, zero, suc, _+_, _*_, _-_, _/_, _%_, _≤_, _<_}
 use lib.ListN.{length, drop}
 use lib.Dec.{T, eqb, leb, ltb}
@@ -20,24 +20,19 @@ digitsIn (suc f) n = elim (eqb n 0) [ true ↦ [] | false ↦ digitsIn f (n / 10
 unfoldable pub digits : ℕ → List ℕ
 digits n = digitsIn n n
 
--- both of two tests
-abbrev pub both : Bool → Bool → Bool
-both true b = b
-both false b = false
-
 -- the bytes 0 to 9
 abbrev pub isDigit : ℕ → Bool
-isDigit b = both (leb 48 b) (ltb b 58)
+isDigit b = leb 48 b && ltb b 58
 
 -- from 1 to limit
 abbrev pub within : ℕ → ℕ → Bool
-within limit m = both (ltb 0 m) (leb m limit)
+within limit m = ltb 0 m && leb m limit
 
 -- what the next byte does to a number m so far (0: none so far) that may not pass limit, and that the byte end closes
 abbrev pub next : (limit end m b : ℕ) → Step
 next limit end m b =
-    pick (both (ltb 0 m) (eqb b end)) ended
-    (pick (both (isDigit b) (within limit (m * 10 + (b - 48)))) (on (m * 10 + (b - 48))) stuck)
+    pick (ltb 0 m && eqb b end) ended
+    (pick (isDigit b && within limit (m * 10 + (b - 48))) (on (m * 10 + (b - 48))) stuck)
 
 -- a number from m so far, after n bytes
 abbrev pub numberFrom : (limit end m n : ℕ) → List ℕ → Answer ℕ

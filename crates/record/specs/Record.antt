@@ -1,6 +1,6 @@
 -- The lines of a record: those of one kind, and the first. Assumes nothing.
 use mathlib.Core.List.{List, [], _∷_, _++_}
-use mathlib.Core.Bool.{Bool, true, false}
+use mathlib.Core.Bool.{Bool, true, false, _&&_}
 use Prim.Native.Nat.{ℕ, zero, suc, _+_, _*_, _-_}
 use lib.IntN.{ℤ, pos}
 use lib.ListN.{getD}
@@ -9,7 +9,7 @@ use Rattle.transform.specs.Kinds.{widthOf, heightOf, placesOf}
 use Rattle.params.specs.Row.{fixed, lists, allowed}
 use Rattle.record.specs.Format.{pick, Format, byte, _▷_, via, nothing, seqs, after, closed}
 use Rattle.record.specs.Text.{bytes}
-use Rattle.record.specs.Number.{both, isDigit, number, signed}
+use Rattle.record.specs.Number.{isDigit, number, signed}
 use Rattle.record.specs.Half.{half}
 
 -- ---- lines
@@ -31,7 +31,7 @@ line name d F (suc n) = after name (seqs d (items F (suc n)))
 
 -- one decimal digit of some
 abbrev pub digit : (ℕ → Bool) → Format ℕ
-digit ok = via (λ b. b - 48) (λ n. 48 + n) (byte (λ b. both (isDigit b) (ok (b - 48))))
+digit ok = via (λ b. b - 48) (λ n. 48 + n) (byte (λ b. isDigit b && ok (b - 48)))
 
 -- the first line: whether all is default
 abbrev pub header : Format ℕ
@@ -45,7 +45,7 @@ Entry = ℕ × (List ℕ × (List ℕ × List ℤ))
 
 -- a mode that a reading lets a kind have
 abbrev pub modeOk : ℕ → ℕ → Bool
-modeOk k m = both (ltb m 8) (allowed k m)
+modeOk k m = ltb m 8 && allowed k m
 
 -- how many numbers mode m has with its band counts
 abbrev pub numberCount : ℕ → List ℕ → ℕ

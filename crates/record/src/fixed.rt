@@ -17,9 +17,12 @@ pub(crate) const NUMBERS: [u8; 8] = *b"numbers=";
 
 pub(crate) const SAMPLES: [u8; 8] = *b"samples=";
 
-// The lines that frame a digit: it is put in, and so is a kind's last digit.
-const FIRST: [u8; 10] = *b"default=0\n";
+// The two first lines.
+const SOME_GIVEN: [u8; 10] = *b"default=0\n";
 
+const ALL_DEFAULT: [u8; 10] = *b"default=1\n";
+
+// The lines that frame a mode: it is put in, and so is a kind's last digit.
 const SHORT_ONE: [u8; 25] = *b"kind=0\nmode=0\norders=one\n";
 
 const SHORT_TWO: [u8; 25] = *b"kind=0\nmode=0\norders=two\n";
@@ -33,9 +36,7 @@ pub(crate) fn first_line(flag: u64) -> [u8; 10]
     requires { ⌜ flag < 2 ⌝ }
     ensures { λ r. ⌜ r ≡ header .write flag ⌝ }
 {
-    let mut line = FIRST;
-    line[8] = 48 + (flag as u8);
-    line
+    if flag == 1 { ALL_DEFAULT } else { SOME_GIVEN }
 }
 
 // The three lines that a kind below 10 has.

@@ -7,8 +7,8 @@ ghost use lib.Seq.{sets};
 ghost use lib.IntN.{ℤ, pos, negℤ};
 ghost use Rattle.record.specs.Format.{shared, seqs, byteRead, got, lit};
 ghost use Rattle.record.specs.Number.{next, number, signed};
-ghost use Rattle.record.specs.Answers.{readAt, num, toldOf, sampleOf, seen, digitOk, slot};
-ghost use Rattle.record.specs.Half.{half, hexOr, isHex};
+ghost use Rattle.record.specs.Answers.{readAt, num, toldOf, sampleOf, seen, digitOk, slot, hexOr};
+ghost use Rattle.record.specs.Half.{half, isHex};
 ghost use Rattle.record.specs.Record.{endOf, items};
 
 // A number that was read and the position past it, or the position that refuses.

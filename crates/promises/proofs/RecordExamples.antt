@@ -1,12 +1,10 @@
 -- The definitions at some texts, computed. Assumes nothing.
 use mathlib.Core.Path.{_≡_, refl}
-use mathlib.Core.List.{List, [], _∷_}
-use Prim.Native.Nat.{ℕ}
-use lib.IntN.{ℤ, pos, negsuc}
-use Rattle.record.specs.Format.{Answer, got, bad, Reading, done, text, whole}
+use lib.IntN.{negsuc}
+use Rattle.record.specs.Format.{got, bad}
 use Rattle.record.specs.Text.{bytes}
-use Rattle.record.specs.Number.{digits, number, signed}
+use Rattle.record.specs.Number.{digits, signed}
 use Rattle.record.specs.Half.{half}
 
 -- 2147483648 is refused at its last digit, with a minus it is not; no -0, no leading zero, no plus
 samples-1 : signed 44 .read (bytes "2147483648,") ≡ bad 9

@@ -1,37 +1,35 @@
--- Every description that the record's format allows is an allowed description with some arena; so TEXT's number is reached. Assumes nothing.
+-- Every description that the record's format allows is an allowed description with some arena. Assumes nothing.
 use mathlib.Core.Path.{_≡_, refl, sym, ap, _∙_, subst, subst⁻¹}
-use mathlib.Core.List.{List, [], _∷_, _++_}
-use mathlib.Core.Bool.{Bool, true, false, not, _&&_, _||_}
+use mathlib.Core.List.{List, [], _∷_}
+use mathlib.Core.Bool.{Bool, true, false}
 use Prim.Native.Nat.{ℕ, zero, suc, _+_, _*_, _-_, _/_, _%_, _≤_, _<_}
-use native.Mathlib.Nat.{add-zero, zero-add}
+use native.Mathlib.Nat.{add-zero}
 use native.Mathlib.Omega.{arith}
 use native.Mathlib.Decide.{ℕ-discrete}
-use native.Mathlib.Numerals.{add-one}
-use borrow.Author.Tests.{eq-eqb, ne-eqb, eqb-true}
+use borrow.Author.Tests.{eq-eqb, ne-eqb}
 use lib.IntN.{ℤ, pos}
-use lib.ListN.{length, getD, set, take, drop, replicate, length-set, length-replicate, length-append}
+use lib.ListN.{length, getD, set, take, drop, replicate, length-set, length-replicate}
 use lib.Seq.{sets, length-sets, drop-drop}
-use lib.Dec.{eqb, ltb}
+use lib.Dec.{eqb}
 use Rattle.transform.specs.Kinds.{placesOf, startOf, part}
 use Rattle.transform.specs.First.{before}
 use Rattle.transform.proofs.FirstLaws.{before-every}
 use Rattle.params.specs.Allowed.{rowAt, modeAt, entryRow, flagRow, rowAllowed, flagFault, rowFault}
 use Rattle.params.specs.Header.{allDefault}
 use Rattle.params.proofs.FaultLaws.{allowed-entry, fault-rows}
-use Rattle.record.specs.Format.{Format, pick, shared, seqs, nothing, Longest, text, whole}
+use Rattle.record.specs.Format.{pick, seqs}
 use Rattle.record.specs.Record.{header, sampleCount}
 use Rattle.record.specs.Rows.{Row, rowFormat, rowFormats, allKinds, kindLines, rowsFormat}
-use Rattle.record.specs.Flat.{Flat, joinRows, cutRows, flatOf, rowsOf, flatFormat}
+use Rattle.record.specs.Flat.{Flat, joinRows, cutRows, flatOf, flatFormat}
 use Rattle.params.specs.Raw.{isRaw}
 use Rattle.params.proofs.RawLaws.{all-samples}
-use Rattle.record.specs.Description.{rawParts, describe, recordOf, fits32, Each, Allowed, storeParts}
-use Rattle.record.proofs.Laws.{whole-text}
-use Rattle.record.proofs.FlatLaws.{flat-lawful, all-good, all-count, flat-rows, joined-length, small-flag}
-use Rattle.record.proofs.OkAllowed.{samples-fit, row-bits, row-passes, each-append, each-zero}
+use Rattle.record.specs.Description.{rawParts, describe, fits32, Each, Allowed, storeParts}
+use Rattle.record.proofs.FlatLaws.{all-good, all-count, flat-rows, joined-length, small-flag}
+use Rattle.promises.proofs.RecordRows.{samples-fit, row-bits, row-passes, each-zero}
 use Rattle.record.proofs.KindStores.{ready}
 use Rattle.record.proofs.OkLaws.{each-of}
 use Rattle.record.proofs.SetStores.{lent-else, each-zeros, row-first}
-use Rattle.record.proofs.ReadBack.{other-part, own-part}
+use Rattle.promises.proofs.RecordParts.{other-part, own-part, store-long}
 
 -- ---- lists of elements
 
@@ -54,10 +52,6 @@ sized-tail j v vs f i = let q : j + suc i ≡ j + 1 + i = omega arith in subst (
 
 sized-head : (j : ℕ) (v : List ℤ) (vs : List (List ℤ)) → Sized j (v ∷ vs) → length v ≤ placesOf j
 sized-head j v vs f = subst (λ (n : ℕ). length v ≤ placesOf n) (add-zero j) (f 0)
-
-store-long : (j : ℕ) (vs : List (List ℤ)) (arena : List ℤ) → length (storeParts j vs arena) ≡ length arena
-store-long j [] arena = refl
-store-long j (v ∷ vs) arena = store-long (j + 1) vs (sets arena (startOf j) v) ∙ length-sets arena (startOf j) v
 
 store-before : (j : ℕ) (vs : List (List ℤ)) (arena : List ℤ) → length arena ≡ 394752 → Sized j vs → (k : ℕ) → k < j → part k (storeParts j vs arena) ≡ part k arena
 store-before j [] arena l f k h = refl
@@ -211,10 +205,6 @@ pub record Behind (f : Flat) : Type 0 where
   pub allowed : Allowed rows samples
   pub same : describe rows samples ≡ f
 
-no-rows : (l : List ℕ) (vs : List (List ℤ)) → cutRows l vs ≡ [] → [] ≡ vs
-no-rows l [] e = refl
-no-rows l (v ∷ vs) e = absurd (let q : suc (length (cutRows (drop 128 l) vs)) ≡ 0 = ap length e in omega arith)
-
 default-fault : rowFault allDefault ≡ 17
 unfolding rowFault flagFault before rowAllowed entryRow flagRow
 default-fault = refl
@@ -277,11 +267,3 @@ module _ (f : Flat) (o : flatFormat .Ok f) where
       go : Dec (getD (f .0) 126 0 ≡ 1) → Behind f
       go (yes e) = subst Behind (default-is e) default-behind
       go (no e) = behind-kinds e
-
--- TEXT's number is reached: some allowed description's record shares that much
-pub text-reached : (t : List ℕ) (n : ℕ) → whole flatFormat t ≡ text n → (r : List ℕ) × (s : List ℤ) × Allowed r s × (shared t (recordOf r s) ≡ n)
-unfolding recordOf
-text-reached t n e =
-    let x : Longest flatFormat t n = whole-text flatFormat flat-lawful t n e .0 in
-    let b : Behind (x .reached .0) = behind (x .reached .0) (x .reached .1) in
-    (b .rows, b .samples, b .allowed, ap (λ (f : Flat). shared t (flatFormat .write f)) (b .same) ∙ x .reached .2)

@@ -1,52 +1,38 @@
 -- An allowed description is one that the record's format writes. Assumes nothing.
-use mathlib.Core.Path.{_≡_, refl, sym, ap, _∙_, subst, subst⁻¹}
+use mathlib.Core.Path.{_≡_, refl, sym, ap, _∙_, subst⁻¹}
 use mathlib.Core.List.{List, [], _∷_, _++_}
-use mathlib.Core.Bool.{Bool, true, false, not, _&&_, _||_}
+use mathlib.Core.Bool.{Bool, true, false}
 use Prim.Native.Nat.{ℕ, zero, suc, _+_, _*_, _-_, _≤_, _<_}
-use native.Mathlib.Nat.{zero-add}
 use native.Mathlib.Omega.{arith}
 use native.Mathlib.Decide.{ℕ-discrete}
-use borrow.Author.Tests.{eq-eqb, ne-eqb, eqb-true, lt-ltb, le-leb}
-use lib.IntN.{ℤ, pos}
+use borrow.Author.Tests.{eq-eqb, ne-eqb, lt-ltb, le-leb}
+use lib.IntN.{ℤ}
 use lib.ListN.{length, getD, set, take, drop, replicate}
-use lib.Seq.{take-all, drop-drop}
-use lib.Dec.{eqb, leb}
+use lib.Seq.{take-all, take-add, drop-drop}
 use Rattle.transform.specs.Kinds.{placesOf, startOf, part}
 use Rattle.params.specs.Allowed.{rowAt}
-use Rattle.record.specs.Format.{Format, pick, seqs, nothing}
-use Rattle.record.specs.Record.{digit, header}
+use Rattle.record.specs.Format.{pick, seqs}
+use Rattle.record.specs.Record.{header}
 use Rattle.record.specs.Rows.{Row, rowFormat, rowFormats, allKinds, kindLines, rowsFormat}
-use Rattle.record.specs.Flat.{Flat, joinRows, samplesOf, cutRows, flatOf, flatFormat}
+use Rattle.record.specs.Flat.{joinRows, samplesOf, cutRows, flatOf, flatFormat}
 use Rattle.params.specs.Raw.{isRaw}
 use Rattle.record.specs.Description.{rawParts, describe, fits32, Each, Allowed}
 use Rattle.record.specs.Stored.{Checked}
 use Rattle.record.proofs.FlatLaws.{all-good, all-count, flat-rows}
 use Rattle.record.proofs.OkLaws.{each-take, each-drop}
 use Rattle.record.proofs.SetStores.{lent-rows, flag-small, kind-ok, part-count}
-use Rattle.record.proofs.DefaultRows.{rows-default}
+use Rattle.promises.proofs.RecordDefaults.{rows-default}
 
 flag-ok : (d : ℕ) → d < 2 → header .Ok d
 flag-ok d h =
     let q : 48 + d - 48 ≡ d = omega arith in
     (((((tt, (rw (q, le-leb 48 (48 + d) (omega arith), lt-ltb (48 + d) 58 (omega arith), le-leb d 1 (omega arith)) tt, q)), refl), tt), refl))
 
-take-nil : (n : ℕ) → take {A = ℕ} n [] ≡ []
-take-nil zero = refl
-take-nil (suc n) = refl
-
-take-more : (n m : ℕ) (l : List ℕ) → take n l ++ take m (drop n l) ≡ take (n + m) l
-take-more zero m l = ap (λ (i : ℕ). take i l) (sym (zero-add m))
-take-more (suc n) m [] = take-nil m ∙ sym (take-nil (suc n + m))
-take-more (suc n) m (a ∷ l) = ap {B = List ℕ} (λ (t : List ℕ). a ∷ t) (take-more n m l) ∙ ap (λ (i : ℕ). take i (a ∷ l)) (more n m)
-  where
-    more : (x y : ℕ) → suc (x + y) ≡ suc x + y
-    more x y = omega arith
-
 join-cut : (l : List ℕ) (vs : List (List ℤ)) → joinRows (cutRows l vs) ≡ take (length vs * 128) l
 join-cut l [] = refl
 join-cut l (v ∷ vs) =
     let q : 128 + length vs * 128 ≡ suc (length vs) * 128 = omega arith in
-    ap (λ (t : List ℕ). take 128 l ++ t) (join-cut (drop 128 l) vs) ∙ take-more 128 (length vs * 128) l ∙ ap (λ (i : ℕ). take i l) q
+    ap (λ (t : List ℕ). take 128 l ++ t) (join-cut (drop 128 l) vs) ∙ sym (take-add 128 (length vs * 128) l) ∙ ap (λ (i : ℕ). take i l) q
 
 samples-cut : (l : List ℕ) (vs : List (List ℤ)) → samplesOf (cutRows l vs) ≡ vs
 samples-cut l [] = refl

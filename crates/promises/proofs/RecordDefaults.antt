@@ -1,30 +1,30 @@
 -- The rows of a set whose slot 126 is 1 and which the ROW check lets pass: all 0 but that slot. Assumes nothing.
 use mathlib.Core.Path.{_≡_, refl, sym, ap, _∙_, subst}
 use mathlib.Core.List.{List, [], _∷_, _++_}
-use mathlib.Core.Bool.{Bool, true, false, not, _&&_, _||_}
+use mathlib.Core.Bool.{Bool, true, false, _&&_, _||_}
 use Prim.Native.Nat.{ℕ, zero, suc, _+_, _*_, _-_, _/_, _%_, _≤_, _<_}
 use native.Mathlib.Omega.{arith}
 use native.Mathlib.Decide.{ℕ-discrete, decLt}
-use borrow.Author.Tests.{eq-eqb, ne-eqb, eqb-true}
+use borrow.Author.Tests.{ne-eqb, eqb-true}
 use lib.IntN.{ℤ}
-use lib.ListN.{length, getD, set, take, drop, replicate, length-set, length-replicate, getD-replicate, length-drop}
-use lib.Seq.{ext-getD, getD-take, getD-drop, getD-set-same, getD-set-other, length-take-le}
+use lib.ListN.{length, getD, take, drop, replicate, length-set, length-replicate, getD-replicate}
+use lib.Seq.{ext-getD, getD-take, getD-drop, getD-set-same, getD-set-other}
 use lib.Dec.{eqb, ltb}
 use Rattle.transform.specs.First.{before}
 use native.Mathlib.Nat.{le-of-eq}
 use Rattle.transform.proofs.FirstLaws.{before-each}
 use Rattle.params.specs.Row.{lists}
-use Rattle.params.specs.Allowed.{allZero, entryRow, flagRow, rowAllowed, rowAt, modeAt, rowFault}
+use Rattle.params.specs.Allowed.{allZero, entryRow, flagRow, rowAllowed, rowAt, modeAt}
 use Rattle.params.specs.Header.{allDefault}
-use Rattle.params.proofs.AllowedLaws.{and-true, zeros-of}
+use Rattle.params.proofs.AllowedLaws.{and-true}
 use Rattle.params.proofs.FaultLaws.{fault-flag, fault-modes}
 use Rattle.record.specs.Record.{numberCount, sampleCount}
-use Rattle.record.specs.Rows.{Row, rowFormat, rowOf, entryOf}
+use Rattle.record.specs.Rows.{Row, rowFormat}
 use Rattle.record.specs.Description.{Each}
 use Rattle.record.specs.Stored.{Checked}
 use Rattle.record.proofs.FlatLaws.{row-good}
 use Rattle.record.proofs.OkLaws.{each-take, each-drop, entry-ok}
 use Rattle.record.proofs.SetStores.{row-first, lent-rows}
 
 -- a row of mode 0 is all 0
 abbrev made : List ℕ → ℕ → List ℕ

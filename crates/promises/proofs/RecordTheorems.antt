@@ -1,28 +1,25 @@
 -- What document 01 asks of the record, over descriptions: 17 rows of 128 numbers and an arena of samples. Assumes nothing.
-use mathlib.Core.Path.{_≡_, refl, sym, ap, _∙_, subst, subst⁻¹}
+use mathlib.Core.Path.{_≡_, refl, sym, ap, _∙_}
 use mathlib.Core.List.{List, [], _∷_, _++_}
-use mathlib.Core.Bool.{Bool, true, false, _&&_}
-use Prim.Native.Nat.{ℕ, zero, suc, _+_, _*_, _-_, _≤_, _<_}
+use mathlib.Core.Bool.{Bool, true, false}
+use Prim.Native.Nat.{ℕ, zero, suc, _+_, _-_, _≤_, _<_}
 use native.Mathlib.Omega.{arith}
 use native.Mathlib.Decide.{ℕ-discrete}
-use borrow.Author.Tests.{eq-eqb, ne-eqb, eqb-true, lt-ltb, le-ltb}
+use borrow.Author.Tests.{ne-eqb, eqb-true, lt-ltb, le-ltb}
 use lib.IntN.{ℤ}
 use lib.ListN.{length, getD}
-use lib.Dec.{eqb, ltb}
-use Rattle.params.specs.Allowed.{modeAt, rowFault}
-use Rattle.record.specs.Format.{Format, pick, shared, Longest, Reading, done, text, whole}
-use Rattle.record.specs.Text.{bytes}
+use lib.Dec.{eqb}
+use Rattle.params.specs.Allowed.{modeAt}
+use Rattle.record.specs.Format.{pick, done, whole}
 use Rattle.record.specs.Flat.{Flat, flatFormat}
 use Rattle.transform.specs.Kinds.{part}
-use Rattle.params.specs.Raw.{isRaw, anyRaw}
-use Rattle.record.specs.Description.{lentFault, rawParts, describe, recordOf, Allowed, Same}
-use Rattle.record.specs.declared.reader.Taken.the-variants as takes
-use Rattle.record.specs.declared.writer.Written.the-variants as writes
-use Rattle.record.specs.Replies.{readLent, readIs, readAnswer, rowsAfter, writeAnswer}
-use Rattle.record.proofs.Laws.{injective, no-beginning, whole-writes, whole-text}
-use Rattle.record.proofs.FlatLaws.{flat-lawful}
-use Rattle.record.proofs.DefaultRows.{mode-zero}
-use Rattle.record.proofs.AllowedOk.{checked-of, allowed-ok}
+use Rattle.params.specs.Raw.{isRaw}
+use Rattle.record.specs.Description.{rawParts, describe, recordOf, Allowed, Same}
+use Rattle.record.specs.Replies.{writtenReply, writeAnswer}
+use Rattle.record.proofs.Laws.{no-beginning}
+use Rattle.promises.proofs.RecordWhole.{flat-lawful, injective, whole-writes}
+use Rattle.promises.proofs.RecordDefaults.{mode-zero}
+use Rattle.promises.proofs.RecordAllowed.{checked-of, allowed-ok}
 
 -- ---- the same description, and the same parts by kind
 
@@ -91,39 +88,21 @@ module _ (r : List ℕ) (s : List ℤ) (r' : List ℕ) (s' : List ℤ) (a : Allo
   unfolding recordOf
   no-record-begins t e = described r s r' s' a (no-beginning flatFormat flat-lawful (describe r s) (describe r' s') t (allowed-ok r s a) (allowed-ok r' s' a') e)
 
--- ---- reading back, and TEXT
+-- ---- reading
 
 -- a record is read as its description
 pub record-read : (r : List ℕ) (s : List ℤ) → Allowed r s → whole flatFormat (recordOf r s) ≡ done (describe r s)
 unfolding recordOf
 record-read r s a = whole-writes flatFormat flat-lawful (describe r s) (allowed-ok r s a)
 
--- bytes that are no record: no allowed description is written so, and none shares a longer beginning
-pub text-most : (t : List ℕ) (n : ℕ) → whole flatFormat t ≡ text n → (r : List ℕ) (s : List ℤ) → Allowed r s → (shared t (recordOf r s) ≤ n) × (recordOf r s ≡ t → ⊥)
-unfolding recordOf
-text-most t n e r s a =
-    let x : Longest flatFormat t n × ((f : Flat) → flatFormat .Ok f → flatFormat .write f ≡ t → ⊥) = whole-text flatFormat flat-lawful t n e in
-    (x .0 .most (describe r s) (allowed-ok r s a), x .1 (describe r s) (allowed-ok r s a))
+-- ---- writing
 
--- ROOM's number is the record's length, given exactly where the buffer is shorter
-pub room-is : (r : List ℕ) (s : List ℤ) (room : ℕ) → Allowed r s → room < length (recordOf r s) → writeAnswer r s room ≡ writes.Room (length (recordOf r s))
+-- ROOM says the record's length, where the buffer is shorter
+pub room-is : (r : List ℕ) (s : List ℤ) (room : ℕ) → Allowed r s → room < length (recordOf r s) → writtenReply (writeAnswer r s room) ≡ 9 ∷ length (recordOf r s) ∷ []
 unfolding writeAnswer
 room-is r s room a h = rw (a .lent, a .row, lt-ltb room (length (recordOf r s)) h)
 
-pub done-is : (r : List ℕ) (s : List ℤ) (room : ℕ) → Allowed r s → length (recordOf r s) ≤ room → writeAnswer r s room ≡ writes.Done (length (recordOf r s))
+-- and DONE says it where it is not
+pub done-is : (r : List ℕ) (s : List ℤ) (room : ℕ) → Allowed r s → length (recordOf r s) ≤ room → writtenReply (writeAnswer r s room) ≡ 0 ∷ length (recordOf r s) ∷ []
 unfolding writeAnswer
 done-is r s room a h = rw (a .lent, a .row, le-ltb room (length (recordOf r s)) h)
-
--- TEXT is given with that number, and with no other
-pub text-answer : (n l : ℕ) (t : List ℕ) (k : ℕ) → readAnswer n l t ≡ takes.Text k → whole flatFormat t ≡ text k
-unfolding readAnswer
-text-answer n l t k e = go (readLent n l) (whole flatFormat t) refl e
-  where
-    two : (b : Bool) → pick b (takes.Room 394752) takes.Done ≡ takes.Text k → ⊥
-    two true q = let z : _≡_ {A = ℕ} 0 1 = cc in omega arith
-    two false q = let z : _≡_ {A = ℕ} 0 1 = cc in omega arith
-
-    go : (b : Bool) (x : Reading Flat) → whole flatFormat t ≡ x → pick b takes.Lent (readIs l x) ≡ takes.Text k → whole flatFormat t ≡ text k
-    go true x h q = absurd (let z : _≡_ {A = ℕ} 0 1 = cc in omega arith)
-    go false (done f) h q = absurd (two (anyRaw (f .0) && eqb l 0) q)
-    go false (text m) h q = let z : m ≡ k = cc in h ∙ ap text z
