@@ -1,12 +1,11 @@
 -- What a loop over the items of a line goes by, for any format of an item. Assumes nothing.
 use mathlib.Core.Path.{_≡_, refl, sym, ap, _∙_, subst, subst⁻¹}
 use mathlib.Core.List.{List, [], _∷_, _++_}
-use Prim.Native.Nat.{ℕ, zero, suc, _+_, _*_, _-_, _≤_, _<_}
+use Prim.Native.Nat.{ℕ, suc, _+_, _-_, _≤_, _<_}
 use native.Mathlib.Nat.{add-zero}
-use native.Mathlib.Numerals.{add-one}
 use native.Mathlib.Omega.{arith}
 use lib.IntN.{ℤ}
-use lib.ListN.{length, drop, set, length-append}
+use lib.ListN.{length, set, length-append}
 use lib.Seq.{sets, length-sets}
 use Rattle.record.specs.Format.{Answer, got, bad, Format, Lawful, seqs}
 use Rattle.record.specs.Record.{endOf, items}
@@ -14,7 +13,6 @@ use Rattle.record.specs.declared.piece.Num.{Num}
 use Rattle.record.specs.declared.piece.Num.the-variants.{Got, Bad}
 use Rattle.record.specs.declared.piece.Sample as sample
 use Rattle.record.specs.declared.piece.Sample.the-variants as samples
-use Rattle.record.specs.declared.piece.Scan as scan
 use Rattle.record.specs.declared.piece.Scan.the-variants as scans
 use Rattle.record.specs.Answers.{readAt, num, sampleOf, seen}
 use Rattle.record.proofs.Laws.{got-bad}

@@ -1,7 +1,7 @@
 -- What the reader of a named line of items goes by, for any name and any format of an item. Assumes nothing.
 use mathlib.Core.Path.{_≡_, refl, sym, ap, _∙_}
-use mathlib.Core.List.{List, [], _∷_}
-use Prim.Native.Nat.{ℕ, zero, suc, _+_, _≤_, _<_}
+use mathlib.Core.List.{List, []}
+use Prim.Native.Nat.{ℕ, zero, suc}
 use native.Mathlib.Nat.{add-zero}
 use lib.Seq.{sets}
 use Rattle.record.specs.Format.{got, bad, Format, lit, nothing, after, seqs}

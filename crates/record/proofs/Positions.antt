@@ -1,18 +1,16 @@
 -- Joined formats at a position of a text: what the readers that call one another go by. Assumes nothing.
-use mathlib.Core.Path.{_≡_, refl, sym, ap, _∙_, subst, subst⁻¹}
+use mathlib.Core.Path.{_≡_, refl, sym, ap, _∙_}
 use mathlib.Core.List.{List, [], _∷_, _++_, append-assoc, append-nil}
-use mathlib.Core.Bool.{Bool, true, false}
-use Prim.Native.Nat.{ℕ, zero, suc, _+_, _*_, _-_, _≤_, _<_}
-use native.Mathlib.Nat.{add-assoc, add-zero, le-trans}
+use Prim.Native.Nat.{ℕ, _+_, _≤_, _<_}
+use native.Mathlib.Nat.{add-zero}
 use native.Mathlib.Omega.{arith}
-use borrow.Author.Tests.{eq-eqb, ne-eqb, lt-ltb, le-ltb, le-leb, lt-leb}
-use lib.ListN.{length, drop, getD, length-append, length-drop}
+use borrow.Author.Tests.{le-leb, lt-leb}
+use lib.ListN.{length, drop, length-append, length-drop}
 use lib.Seq.{drop-drop}
-use lib.Dec.{eqb, leb, ltb}
-use Rattle.record.specs.Format.{Answer, got, bad, pick, shared, Format, Lawful, lit, byte, byteRead, afterwards, andThen, _▷_, mapAnswer, via, nothing, uncons, seqs, choose, after, closed}
+use Rattle.record.specs.Format.{Answer, got, bad, shared, Format, Lawful, lit, _▷_, mapAnswer, via, uncons, seqs, after, closed}
 use Rattle.record.specs.Answers.{shift, readAt}
 use Rattle.record.proofs.Laws.{got-bad}
-use Rattle.record.proofs.Shared.{shared-le-right, shared-le-left}
+use Rattle.record.proofs.Shared.{shared-le-right}
 
 -- ---- an answer at a position, and from there
 

@@ -1,25 +1,21 @@
 -- What the call that reads a record goes by. Assumes nothing.
-use mathlib.Core.Path.{_≡_, refl, sym, ap, _∙_, subst, subst⁻¹}
+use mathlib.Core.Path.{_≡_, refl, sym, ap, _∙_}
 use mathlib.Core.List.{List, [], _∷_, _++_}
-use mathlib.Core.Bool.{Bool, true, false, not, _&&_, _||_}
-use Prim.Native.Nat.{ℕ, zero, suc, _+_, _*_, _-_, _≤_, _<_}
+use mathlib.Core.Bool.{Bool, true, false, not, _&&_}
+use Prim.Native.Nat.{ℕ, suc, _≤_, _<_}
 use native.Mathlib.Nat.{zero-add}
 use native.Mathlib.Omega.{arith}
 use borrow.Author.Tests.{eq-eqb, ne-eqb, lt-ltb, le-ltb}
 use lib.IntN.{ℤ}
-use lib.ListN.{length, getD}
+use lib.ListN.{length}
 use lib.Dec.{eqb, ltb}
-use Rattle.transform.specs.First.{before}
-use Rattle.transform.proofs.FirstLaws.{before-more, before-stop, before-all}
-use Rattle.params.specs.Allowed.{modeAt}
 use Rattle.record.specs.Format.{Answer, got, bad, Format, pick, Reading, done, text, wholeOf, whole}
 use Rattle.record.specs.declared.piece.Scan as scan
 use Rattle.record.specs.declared.piece.Scan.the-variants as scans
 use Rattle.record.specs.declared.reader.Taken as taken
 use Rattle.record.specs.declared.reader.Taken.the-variants as takes
 use Rattle.record.specs.Flat.{Flat, flatFormat}
-use Rattle.params.specs.Raw.{isRaw, anyRaw}
-use Rattle.record.specs.Description.{storeParts}
+use Rattle.params.specs.Raw.{anyRaw}
 use Rattle.record.specs.Replies.{readLent, readIs, readAnswer, rowsLeft, samplesLeft, rowsAfter, samplesAfter}
 use Rattle.record.specs.Answers.{shift, readAt, seen, FlatStored}
 use Rattle.record.proofs.Framed.{seen-got, seen-bad}

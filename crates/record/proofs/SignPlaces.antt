@@ -1,8 +1,8 @@
 -- What the readers of samples go by. Assumes nothing.
-use mathlib.Core.Path.{_≡_, refl, sym, ap, _∙_, subst, subst⁻¹}
-use mathlib.Core.List.{List, [], _∷_, _++_}
+use mathlib.Core.Path.{_≡_, refl, sym, ap, _∙_, subst⁻¹}
+use mathlib.Core.List.{List, [], _∷_}
 use mathlib.Core.Bool.{Bool, true, false, not}
-use Prim.Native.Nat.{ℕ, zero, suc, _+_, _*_, _-_, _^_, _≤_, _<_}
+use Prim.Native.Nat.{ℕ, zero, suc, _+_, _≤_, _<_}
 use native.Mathlib.Nat.{add-zero}
 use native.Mathlib.Decide.{decLt}
 use native.Mathlib.Omega.{arith}
@@ -14,14 +14,13 @@ use lib.IntN.{ℤ, pos, negsuc, negℤ, natAbs, _-ℤ_, +ℤ-idl}
 use lib.Signed.{mag, ltZ, nonNeg}
 use lib.ListN.{length, drop, getD, List·getD-eq-default}
 use lib.Seq.{getD-drop}
-use lib.Dec.{T, eqb, ltb, ltb→lt}
-use Rattle.record.specs.Format.{Answer, got, bad, pick, shared, Format, lit, via, after, choose, mapAnswer}
+use lib.Dec.{T, eqb, ltb→lt}
+use Rattle.record.specs.Format.{bad, shared, Format, lit, via, choose, mapAnswer}
 use Rattle.record.specs.Text.{bytes}
 use Rattle.record.specs.declared.piece.Num.{Num}
 use Rattle.record.specs.declared.piece.Num.the-variants.{Got, Bad}
-use Rattle.record.specs.declared.piece.Sample as sample
 use Rattle.record.specs.declared.piece.Sample.the-variants as samples
-use Rattle.record.specs.Answers.{shift, readAt, num, sampleOf}
+use Rattle.record.specs.Answers.{readAt, num, sampleOf}
 use Rattle.record.specs.Number.{number, isZero, isMinus, nought, minus, plus, signed}
 use Rattle.record.proofs.Numbers.{number-lawful}
 use Rattle.record.proofs.Shared.{shared-same, shared-other, shared-nil}

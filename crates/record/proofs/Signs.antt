@@ -1,20 +1,20 @@
 -- The laws of a number with a sign. Assumes nothing.
-use mathlib.Core.Path.{_≡_, refl, sym, ap, _∙_, subst, subst⁻¹}
-use mathlib.Core.List.{List, [], _∷_, _++_}
-use mathlib.Core.Bool.{Bool, true, false}
+use mathlib.Core.Path.{_≡_, refl, sym, ap, _∙_, subst}
+use mathlib.Core.List.{List, [], _∷_}
+use mathlib.Core.Bool.{true, false}
 use mathlib.Core.Logic.{_⊎_, inl, inr}
-use Prim.Native.Nat.{ℕ, zero, suc, _+_, _*_, _-_, _≤_, _<_}
+use Prim.Native.Nat.{ℕ, zero, suc, _≤_, _<_}
 use native.Mathlib.Nat.{not-suc-le-zero}
 use native.Mathlib.Omega.{arith}
-use borrow.Author.Tests.{eq-eqb, ne-eqb}
+use borrow.Author.Tests.{ne-eqb}
 use lib.IntN.{ℤ, pos, negsuc, negℤ, natAbs, pos-ne-negsuc}
-use lib.ListN.{length, getD, length-append}
+use lib.ListN.{length, getD}
 use lib.Dec.{eqb}
-use Rattle.record.specs.Format.{Answer, got, bad, Format, Lawful, lit, via, after, choose}
+use Rattle.record.specs.Format.{got, Format, Lawful, lit, via, choose}
 use Rattle.record.specs.Text.{bytes}
 use Rattle.record.specs.declared.piece.Step.{Step}
 use Rattle.record.specs.declared.piece.Step.the-variants.{Ended as ended, Stuck as stuck, On as on}
-use Rattle.record.specs.Number.{digits, next, numberFrom, number, isZero, isMinus, nought, minus, plus, signed}
+use Rattle.record.specs.Number.{next, numberFrom, number, isZero, isMinus, nought, minus, plus, signed}
 use Rattle.record.proofs.Laws.{got-bad, Side, lit-lawful, via-lawful, after-lawful, choose-lawful, of-value}
 use Rattle.record.proofs.Numbers.{number-lawful, next-on, next-ended}
 

@@ -5,7 +5,7 @@ use mathlib.Core.Bool.{Bool, true, false}
 use Prim.Native.Nat.{ℕ, _≤_, _<_}
 use native.Mathlib.Omega.{arith}
 use lib.ListN.{length}
-use Rattle.record.specs.Format.{Format, Lawful, lit}
+use Rattle.record.specs.Format.{Lawful, lit}
 use Rattle.record.specs.Text.{bytes}
 use Rattle.record.specs.declared.piece.Num.{Num}
 use Rattle.record.specs.declared.piece.Num.the-variants.{Got}

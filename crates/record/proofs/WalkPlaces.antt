@@ -1,36 +1,34 @@
 -- What the readers of all kinds and of a whole record go by. Assumes nothing.
 use mathlib.Core.Path.{_≡_, refl, sym, ap, _∙_, subst, subst⁻¹}
-use mathlib.Core.List.{List, [], _∷_, _++_, append-nil}
-use mathlib.Core.Bool.{Bool, true, false}
-use Prim.Native.Nat.{ℕ, zero, suc, _+_, _*_, _-_, _≤_, _<_}
+use mathlib.Core.List.{List, [], _++_, append-nil}
+use mathlib.Core.Bool.{Bool}
+use Prim.Native.Nat.{ℕ, _+_, _*_, _-_, _≤_, _<_}
 use native.Mathlib.Nat.{add-zero, zero-add}
 use native.Mathlib.Omega.{arith}
 use borrow.Author.Tests.{eq-eqb, ne-eqb}
 use lib.IntN.{ℤ}
-use lib.ListN.{length, getD, set, take, drop, replicate, length-set, length-replicate, drop-of-length-le}
+use lib.ListN.{length, set, drop, replicate, length-set, length-replicate, drop-of-length-le}
 use lib.Seq.{sets, sets-eq}
-use lib.Dec.{eqb, leb}
 use Rattle.transform.specs.Kinds.{startOf}
 use Rattle.params.specs.Header.{allDefault}
-use Rattle.record.specs.Format.{Answer, got, bad, Format, Lawful, _▷_, mapAnswer, nothing, pick}
+use Rattle.record.specs.Format.{Answer, got, bad, Format, _▷_, mapAnswer, nothing, pick}
 use Rattle.record.specs.declared.piece.Num.{Num}
 use Rattle.record.specs.declared.piece.Num.the-variants.{Got, Bad}
 use Rattle.record.specs.declared.piece.Scan as scan
 use Rattle.record.specs.declared.piece.Scan.the-variants as scans
-use Rattle.record.specs.Record.{header, digit}
+use Rattle.record.specs.Record.{header}
 use Rattle.record.specs.Rows.{Row, rowFormat, allKinds, Rows, kindLines, rowsFormat}
 use Rattle.record.specs.Flat.{Flat, joinRows, samplesOf, flatOf, rowsOf, flatFormat}
 use Rattle.record.specs.Description.{storeParts}
 use Rattle.record.specs.Answers.{readAt, num, seen, RowStored, SetStored, FlatStored}
-use Rattle.record.proofs.Laws.{got-bad}
 use Rattle.record.proofs.Positions.{read-via, read-within, first-refuses}
 use Rattle.record.proofs.ItemPlaces.{num-got, num-bad}
 use Rattle.record.proofs.Stores.{sets-append}
 use Rattle.record.proofs.Records.{header-lawful}
 use Rattle.record.proofs.RowLaws.{all-lawful}
-use Rattle.record.proofs.FlatLaws.{Good, Goods, none, more, all-good, all-count, small-flag, flat-rows, joined-length}
+use Rattle.record.proofs.FlatLaws.{Goods, none, more, all-good, all-count, small-flag, flat-rows, joined-length}
 use Rattle.record.proofs.Framed.{seen-got, seen-bad}
-use Rattle.record.proofs.KindPlaces.{stores, Walked, walked-start, walked-on, walked-bad, walked-end}
+use Rattle.record.proofs.KindPlaces.{stores, Walked, walked-on, walked-bad, walked-end}
 use Rattle.record.proofs.PartPlaces.{Reads, reads-bad, reads-got, reads-second}
 
 -- ---- kinds_at

@@ -4,10 +4,6 @@ use mathlib.Core.Logic.{⊎-elim}
 use borrow.Author.Needs.{needs}
 use Rattle.record.proofs.fixed.long_lines.Statement.{statement}
 use Rattle.record.proofs.fixed.long_lines.Tie as tie
-use Rattle.record.proofs.fixed.long_lines.Reads as reads
-use Rattle.record.proofs.fixed.long_lines.Lts as lts
-use Rattle.transform.proofs.Kind.height.Reads as height-reads
-use Rattle.transform.proofs.Kind.width.Reads as width-reads
 
 width-requires : tie.Need-width-requires
 width-requires c κs = search needs

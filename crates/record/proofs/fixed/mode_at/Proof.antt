@@ -3,13 +3,6 @@ use Rattle.record.proofs.Framed.{kind-framed, short-place, long-place}
 use borrow.Author.Needs.{needs}
 use Rattle.record.proofs.fixed.mode_at.Statement.{statement}
 use Rattle.record.proofs.fixed.mode_at.Tie as tie
-use Rattle.record.proofs.fixed.mode_at.Reads as reads
-use Rattle.record.proofs.fixed.mode_at.Lts as lts
-use Rattle.record.proofs.fixed.long_lines.Reads as long-lines-reads
-use Rattle.record.proofs.fixed.mode_digit.Reads as mode-digit-reads
-use Rattle.record.proofs.fixed.short_lines.Reads as short-lines-reads
-use Rattle.record.proofs.piece.fixed_at.Reads as fixed-at-reads
-use Rattle.record.proofs.piece.told.Reads as told-reads
 
 add-mode-digit : tie.Need-add-mode-digit
 add-mode-digit c = search needs

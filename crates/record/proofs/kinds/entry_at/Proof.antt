@@ -4,11 +4,6 @@ use Rattle.record.proofs.PartPlaces.{mode-read, fresh-set, entry-got, e
 use borrow.Author.Needs.{needs}
 use Rattle.record.proofs.kinds.entry_at.Statement.{statement}
 use Rattle.record.proofs.kinds.entry_at.Tie as tie
-use Rattle.record.proofs.kinds.entry_at.Reads as reads
-use Rattle.record.proofs.kinds.entry_at.Lts as lts
-use Rattle.record.proofs.fixed.mode_at.Reads as mode-at-reads
-use Rattle.record.proofs.kinds.parts_at.Reads as parts-at-reads
-use Rattle.record.proofs.piece.put_u16.Reads as put-u16-reads
 
 mode-at-requires : tie.Need-mode-at-requires
 mode-at-requires c κs = search needs

@@ -4,11 +4,6 @@ use Rattle.record.proofs.PartPlaces.{part-all, part-fits}
 use borrow.Author.Needs.{needs}
 use Rattle.record.proofs.kinds.part_at.Statement.{statement}
 use Rattle.record.proofs.kinds.part_at.Tie as tie
-use Rattle.record.proofs.kinds.part_at.Reads as reads
-use Rattle.record.proofs.kinds.part_at.Lts as lts
-use Rattle.record.proofs.kinds.sample_count.Reads as sample-count-reads
-use Rattle.record.proofs.kinds.samples_at.Reads as samples-at-reads
-use Rattle.transform.proofs.Kind.arena_start.Reads as arena-start-reads
 
 sample-count-requires : tie.Need-sample-count-requires
 sample-count-requires c κs = search needs

@@ -3,10 +3,6 @@ use Rattle.record.proofs.PartPlaces.{row-got, row-bad}
 use borrow.Author.Needs.{needs}
 use Rattle.record.proofs.kinds.row_at.Statement.{statement}
 use Rattle.record.proofs.kinds.row_at.Tie as tie
-use Rattle.record.proofs.kinds.row_at.Reads as reads
-use Rattle.record.proofs.kinds.row_at.Lts as lts
-use Rattle.record.proofs.kinds.entry_at.Reads as entry-at-reads
-use Rattle.record.proofs.kinds.put_numbers.Reads as put-numbers-reads
 
 slice-aggregate-entry-at : tie.Need-slice-aggregate-entry-at
 slice-aggregate-entry-at c = search needs

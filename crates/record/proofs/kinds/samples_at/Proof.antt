@@ -7,10 +7,6 @@ use Rattle.record.proofs.LinePlaces.{line-none, line-name, line-items}
 use borrow.Author.Needs.{needs}
 use Rattle.record.proofs.kinds.samples_at.Statement.{statement}
 use Rattle.record.proofs.kinds.samples_at.Tie as tie
-use Rattle.record.proofs.kinds.samples_at.Reads as reads
-use Rattle.record.proofs.kinds.samples_at.Lts as lts
-use Rattle.record.proofs.piece.fixed_at.Reads as fixed-at-reads
-use Rattle.record.proofs.piece.samples.Reads as samples-reads
 
 returns : tie.Need-returns
 returns c = let a = c .before .before .args in line-none (bytes "samples=") (pos 0) signed (a .s .now) (a .at) (a .n) (a .out .now) (a .place) (c .if1 .taken)

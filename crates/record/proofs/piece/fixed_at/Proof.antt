@@ -4,9 +4,6 @@ use Rattle.record.proofs.Framed.{fixed-bad, fixed-got, fixed-fits}
 use borrow.Author.Needs.{needs}
 use Rattle.record.proofs.piece.fixed_at.Statement.{statement}
 use Rattle.record.proofs.piece.fixed_at.Tie as tie
-use Rattle.record.proofs.piece.fixed_at.Reads as reads
-use Rattle.record.proofs.piece.fixed_at.Lts as lts
-use Rattle.record.proofs.piece.shared_at.Reads as shared-at-reads
 
 shared-at-requires : tie.Need-shared-at-requires
 shared-at-requires c κs = search needs

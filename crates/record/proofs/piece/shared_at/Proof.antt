@@ -1,15 +1,13 @@
 -- `record::piece::shared_at` meets its contract: what is shared is what is passed and what the rests share. Assumes nothing.
-use mathlib.Core.Path.{_≡_, refl, sym, ap, _∙_}
-use Prim.Native.Nat.{_+_, _-_, _≤_, _<_}
+use mathlib.Core.Path.{_≡_}
+use Prim.Native.Nat.{_+_, _-_, _≤_}
 use native.Mathlib.Omega.{arith}
 use borrow.Author.Needs.{needs}
-use lib.ListN.{length, drop, getD}
+use lib.ListN.{length, drop}
 use Rattle.record.specs.Format.{shared}
 use Rattle.record.proofs.Places.{passed-start, passed-out, passed-end, passed-on, passed-all}
 use Rattle.record.proofs.piece.shared_at.Statement.{statement}
 use Rattle.record.proofs.piece.shared_at.Tie as tie
-use Rattle.record.proofs.piece.shared_at.Reads as reads
-use Rattle.record.proofs.piece.shared_at.Lts as lts
 
 abbrev Inv-loop : tie.InvT-loop
 Inv-loop s at w i₀ i = (i ≤ length w) × (at ≤ length s) × (shared (drop at s) w ≡ i + shared (drop (at + i) s) (drop i w))

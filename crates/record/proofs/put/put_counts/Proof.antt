@@ -1,6 +1,6 @@
 -- `record::put::put_counts` meets its contract: the loop of `ItemStores`, over band counts. Assumes nothing.
-use mathlib.Core.Path.{_≡_, refl, sym, ap, _∙_, subst⁻¹}
-use Prim.Native.Nat.{ℕ, _+_, _*_, _-_, _≤_, _<_}
+use mathlib.Core.Path.{refl}
+use Prim.Native.Nat.{_+_, _*_, _-_, _≤_, _<_}
 use native.Mathlib.Omega.{arith}
 use borrow.Author.Needs.{needs}
 use lib.ListN.{length, getD}
@@ -10,10 +10,6 @@ use Rattle.record.proofs.ItemStores.{Wrote, wrote-start, wrote-on, wrot
 use Rattle.record.proofs.LineStores.{items-stored, count-short}
 use Rattle.record.proofs.put.put_counts.Statement.{statement}
 use Rattle.record.proofs.put.put_counts.Tie as tie
-use Rattle.record.proofs.put.put_counts.Reads as reads
-use Rattle.record.proofs.put.put_counts.Lts as lts
-use Rattle.record.proofs.piece.end_of.Reads as end-of-reads
-use Rattle.record.proofs.put.put_count.Reads as put-count-reads
 
 abbrev Inv-loop : tie.InvT-loop
 Inv-loop src out₀ at i₀ p₀ out i p = (i ≤ length src) × (at + 4294967296 * length src < 4611686018427387904) × Wrote 0 (number 16) src out₀ at out i p

@@ -6,10 +6,6 @@ use Rattle.record.proofs.LineStores.{line-empty, line-full}
 use borrow.Author.Needs.{needs}
 use Rattle.record.proofs.writer.put_bands.Statement.{statement}
 use Rattle.record.proofs.writer.put_bands.Tie as tie
-use Rattle.record.proofs.writer.put_bands.Reads as reads
-use Rattle.record.proofs.writer.put_bands.Lts as lts
-use Rattle.record.proofs.put.put_bytes.Reads as put-bytes-reads
-use Rattle.record.proofs.put.put_counts.Reads as put-counts-reads
 
 returns : tie.Need-returns
 returns c = let a = c .before .before .before .args in line-empty (bytes "bands=") 0 (number 16) (a .src .now) (a .out .now) (a .at) (c .if1 .taken)

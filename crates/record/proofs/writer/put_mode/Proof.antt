@@ -3,11 +3,6 @@ use Rattle.record.proofs.LineStores.{lines-short, text-stored}
 use borrow.Author.Needs.{needs}
 use Rattle.record.proofs.writer.put_mode.Statement.{statement}
 use Rattle.record.proofs.writer.put_mode.Tie as tie
-use Rattle.record.proofs.writer.put_mode.Reads as reads
-use Rattle.record.proofs.writer.put_mode.Lts as lts
-use Rattle.record.proofs.fixed.long_lines.Reads as long-lines-reads
-use Rattle.record.proofs.fixed.short_lines.Reads as short-lines-reads
-use Rattle.record.proofs.put.put_bytes.Reads as put-bytes-reads
 
 short-lines-requires : tie.Need-short-lines-requires
 short-lines-requires c κs = search needs

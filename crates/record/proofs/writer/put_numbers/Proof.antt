@@ -6,10 +6,6 @@ use Rattle.record.proofs.LineStores.{line-empty, line-full}
 use borrow.Author.Needs.{needs}
 use Rattle.record.proofs.writer.put_numbers.Statement.{statement}
 use Rattle.record.proofs.writer.put_numbers.Tie as tie
-use Rattle.record.proofs.writer.put_numbers.Reads as reads
-use Rattle.record.proofs.writer.put_numbers.Lts as lts
-use Rattle.record.proofs.put.put_bytes.Reads as put-bytes-reads
-use Rattle.record.proofs.put.put_halves.Reads as put-halves-reads
 
 returns : tie.Need-returns
 returns c = let a = c .before .before .before .args in line-empty (bytes "numbers=") 0 half (a .src .now) (a .out .now) (a .at) (c .if1 .taken)

@@ -6,12 +6,6 @@ use Rattle.record.proofs.KindStores.{parts-stored, counts-part, numbers
 use borrow.Author.Needs.{needs}
 use Rattle.record.proofs.writer.put_parts.Statement.{statement}
 use Rattle.record.proofs.writer.put_parts.Tie as tie
-use Rattle.record.proofs.writer.put_parts.Reads as reads
-use Rattle.record.proofs.writer.put_parts.Lts as lts
-use Rattle.record.proofs.kinds.number_count.Reads as number-count-reads
-use Rattle.record.proofs.writer.put_bands.Reads as put-bands-reads
-use Rattle.record.proofs.writer.put_numbers.Reads as put-numbers-reads
-use Rattle.record.proofs.writer.put_part.Reads as put-part-reads
 
 shared-slice-read-mode : tie.Need-shared-slice-read-mode
 shared-slice-read-mode c = search needs
