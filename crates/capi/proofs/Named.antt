@@ -38,13 +38,15 @@ lookup-names s t k c o h =
     go true false false = refl
     go false x y = refl
 
--- the part of the samples that two values name
-pub jpeg-names : (rows : List ℕ) (zs : List ℤ) (c : ℕ)
-    → take (getD (jpegReply (c * 64) (jpegAnswer rows (length zs) c)) 2 0) (drop (c * 64) zs) ≡ jpegValues rows zs c
+-- the part of the samples that a reply's two values name: where it starts, and how long it is
+abbrev pub samplesOf : List ℤ → List ℕ → List ℤ
+samplesOf zs said = take (getD said 2 0) (drop (getD said 1 0) zs)
+
+pub jpeg-names : (rows : List ℕ) (zs : List ℤ) (c : ℕ) → samplesOf zs (jpegReply (c * 64) (jpegAnswer rows (length zs) c)) ≡ jpegValues rows zs c
 unfolding jpegValues
 jpeg-names rows zs c = go (jpegAnswer rows (length zs) c)
   where
-    go : (j : Jpeg) → take (getD (jpegReply (c * 64) j) 2 0) (drop (c * 64) zs) ≡ givenBy j (take 64 (drop (c * 64) zs))
+    go : (j : Jpeg) → samplesOf zs (jpegReply (c * 64) j) ≡ givenBy j (take 64 (drop (c * 64) zs))
     go Done = refl
     go Lent = refl
     go (Row k) = refl
