@@ -20,13 +20,12 @@ use Rattle.transform.proofs.Laws.{end-le, total}
 use Rattle.params.specs.Allowed.{rowAt, modeAt}
 use Rattle.matrix.specs.Mirror.{mirror, passed}
 use Rattle.matrix.specs.Numbers.{numbersOf}
-use Rattle.matrix.specs.Weight.{weightsOf}
+use Rattle.matrix.specs.Weight.{weightAt, weightsOf}
 use Rattle.matrix.specs.Expanded.{isDone, orElse, samplesRight, lentRight, bandAnswer, weightAnswer, kindAnswer, expandAnswer, leaves}
 use Rattle.matrix.specs.declared.Expanded.{Expanded}
 use Rattle.matrix.specs.declared.Expanded.the-variants.{Done, Weight}
 use Rattle.matrix.proofs.Lending.{all-samples, by-samples}
 use Rattle.bands.proofs.TableLaws.{length-tab}
-use Rattle.matrix.proofs.Places.{weights-length}
 use Rattle.matrix.proofs.Answered.{refused-leaves}
 use Rattle.matrix.proofs.Replies.{done-is, stops}
 use Rattle.matrix.proofs.Said.{says-kind}
@@ -124,7 +123,8 @@ put-laid k st pl s ys e f =
     ∙ ap (λ (n : ℕ). take (startOf k) s ++ (ys ++ drop (startOf k + n) s)) f
 
 pub straight-length : (rows : List ℕ) (zs : List ℤ) (k : ℕ) → length (straightOf rows zs k) ≡ placesOf k
-straight-length rows zs k = weights-length (rowAt rows k) (part k zs) k
+unfolding weightsOf
+straight-length rows zs k = length-tab (placesOf k) (λ p. weightAt (rowAt rows k) (part k zs) k (p / areaOf k) (p % areaOf k))
 
 pub transposed-length : (rows : List ℕ) (zs : List ℤ) (k : ℕ) → length (transposedOf rows zs k) ≡ placesOf k
 unfolding mirror

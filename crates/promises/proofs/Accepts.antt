@@ -23,7 +23,7 @@ use Rattle.matrix.specs.Weight.{weightAt, weightsOf}
 use Rattle.matrix.specs.Expanded.{orElse, bandAnswer, weightAnswer, kindAnswer, expandAnswer}
 use Rattle.matrix.proofs.Lending.{all-samples, by-samples}
 use Rattle.matrix.proofs.Passed.{passed-all}
-use Rattle.matrix.proofs.Places.{weights-length}
+use Rattle.promises.proofs.Places.{weights-length}
 use Rattle.matrix.proofs.RowFacts.{facts}
 use Rattle.matrix.proofs.Said.{says-kind, raw-answer, raw-meaning}
 use Rattle.dequant.specs.Set.{kindsAnswer, setLent, expandSet}

@@ -18,3 +18,17 @@ pub mod Tame
 pub mod DefaultsAccepted
 pub mod Steps
 pub mod OnlyJpeg
+pub mod Strict
+pub mod Distinct
+pub mod WeightRange
+pub mod Places
+pub mod RawPlaces
+pub mod Arena
+pub mod AcceptedSet
+pub mod Shows
+pub mod Differ
+pub mod JpegPart
+pub mod FirstWeight
+pub mod JpegNumbers
+pub mod NumbersToHold
+pub mod Table

@@ -25,7 +25,7 @@ use Rattle.dequant.specs.declared.jpeg.Jpeg.{Jpeg}
 use Rattle.dequant.specs.declared.jpeg.Jpeg.the-variants.{Done, Lent, Row, None}
 use Rattle.dequant.specs.Jpeg.{jpegNumbers, roundsTo, jpegDenominator, jpegAnswer}
 use Rattle.dequant.proofs.JpegLaws.{done-says}
-use Rattle.dequant.proofs.Numbers.{Asked, p8}
+use Rattle.promises.proofs.JpegNumbers.{Asked, p8}
 
 -- ---- what is below zero rounds to no number
 units-below : (q k n : ℕ) → roundsTo (units binary32 true q k) n ≡ false

@@ -18,12 +18,12 @@ use Rattle.matrix.specs.Weight.{weightsOf}
 use Rattle.matrix.specs.Expanded.{orElse, kindAnswer, expandAnswer, leaves}
 use Rattle.matrix.specs.declared.Expanded.{Expanded}
 use Rattle.matrix.specs.declared.Expanded.the-variants.{Done, Lent, Row, Band, Weight}
-use Rattle.matrix.proofs.Places.{both}
+use Rattle.promises.proofs.Places.{both}
 use Rattle.dequant.specs.Set.{straightOf, transposedOf, arenaOf, straightArena, transposedArena, setLent, kindsAnswer, expandSet}
 use Rattle.dequant.specs.Views.{Fit}
 use Rattle.dequant.proofs.Lent.{fits}
 use Rattle.dequant.proofs.Kindwise.{part-length, handed, straight-length, transposed-length}
-use Rattle.dequant.proofs.Arena.{whole-length, part-is}
+use Rattle.promises.proofs.Arena.{whole-length, part-is}
 
 number : Expanded → ℕ
 number Done = 0

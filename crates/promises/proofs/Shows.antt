@@ -17,14 +17,14 @@ use Rattle.transform.specs.declared.TransformType.the-variants.{Dct8, Hornuss, 
 use Rattle.params.specs.Allowed.{rowAt}
 use Rattle.matrix.specs.Mirror.{straightPlace, transposedPlace}
 use Rattle.matrix.specs.Weight.{weightAt}
-use Rattle.matrix.proofs.Places.{straight-in, transposed-in, weights-at, mirrored-at}
+use Rattle.promises.proofs.Places.{straight-in, transposed-in, weights-at, mirrored-at}
 use Rattle.dequant.specs.declared.shown.Order.{Order}
 use Rattle.dequant.specs.declared.shown.Order.the-variants.{Unnamed, Straight, Transposed}
 use Rattle.dequant.specs.Set.{straightOf, transposedOf, arenaOf, straightArena, transposedArena}
 use Rattle.dequant.specs.Shown.{named, channelPart, shown}
 use Rattle.dequant.proofs.Kindwise.{straight-length, transposed-length}
 use Rattle.dequant.proofs.Parts.{channel-end}
-use Rattle.dequant.proofs.Arena.{whole-length, part-is, shows, shows-at, arena-at}
+use Rattle.promises.proofs.Arena.{whole-length, part-is, shows, shows-at, arena-at}
 
 -- ---- every transform type has a kind
 kind-named : (d : TransformType) → kindOf d < 17

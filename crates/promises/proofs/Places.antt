@@ -14,18 +14,18 @@ use lib.Ieee.{Float, nan}
 use Rattle.transform.specs.Kinds.{widthOf, heightOf, areaOf, placesOf}
 use Rattle.params.specs.Allowed.{rowAllowed}
 use Rattle.bands.specs.Table.{tab}
 use Rattle.matrix.specs.Mirror.{turned, mirror, passed, straightPlace, transposedPlace}
 use Rattle.matrix.specs.Numbers.{numbersOf}
 use Rattle.matrix.specs.Raw.{refused}
 use Rattle.matrix.specs.Weight.{weightAt, weightsOf}
 use Rattle.matrix.specs.declared.Expanded.{Expanded}
 use Rattle.matrix.specs.declared.Expanded.the-variants.{Done, Lent, Row, Band, Weight}
 use Rattle.matrix.specs.Expanded.{lentRight, bandAnswer, weightAnswer, orElse, kindAnswer, expandAnswer}
 use Rattle.bands.proofs.TableLaws.{length-tab, getD-tab}
 use Rattle.matrix.proofs.Passed.{all-pass}
 use Rattle.matrix.proofs.Turned.{turned-at}
 use Rattle.matrix.proofs.Lending.{Given, given}
-use Rattle.matrix.proofs.Range.{Between, between}
+use Rattle.promises.proofs.WeightRange.{Between, between}
 
 -- ---- places
 module _ (k c y x : ℕ) (hc : c < 3) (hy : y < heightOf k) (hx : x < widthOf k) where

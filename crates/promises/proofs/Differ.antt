@@ -12,14 +12,14 @@ use Rattle.params.specs.Allowed.{rowAt, modeAt}
 use Rattle.matrix.specs.Mirror.{straightPlace, transposedPlace}
 use Rattle.matrix.specs.Weight.{weightAt}
 use Rattle.matrix.specs.declared.Expanded.the-variants.{Done}
-use Rattle.matrix.proofs.Places.{straight-in, weights-at}
-use Rattle.matrix.proofs.RawPlaces.{Raw, straight-differs, in-range}
+use Rattle.promises.proofs.Places.{straight-in, weights-at}
+use Rattle.promises.proofs.RawPlaces.{Raw, straight-differs, in-range}
 use Rattle.dequant.specs.declared.shown.Order.the-variants.{Unnamed, Straight, Transposed}
 use Rattle.dequant.specs.Set.{straightArena, transposedArena, expandSet}
 use Rattle.dequant.specs.Shown.{shown}
 use Rattle.dequant.proofs.Kindwise.{mode-at}
-use Rattle.dequant.proofs.Expanded.{kind-done}
-use Rattle.dequant.proofs.Shows.{in-straight, in-transposed, shown-straight, shown-unnamed, shown-transposed}
+use Rattle.promises.proofs.AcceptedSet.{kind-done}
+use Rattle.promises.proofs.Shows.{in-straight, in-transposed, shown-straight, shown-unnamed, shown-transposed}
 
 -- a set that is expanded, with a raw kind whose samples all lie between -65,535 and 65,535
 pub record RawSet (k : ℕ) (rows : List ℕ) (zs : List ℤ) (s t : List Float) : Type 0 where

@@ -11,14 +11,14 @@ use lib.ListN.{getD}
 use lib.Ieee.{Float, nan, lt}
 use Rattle.transform.specs.Kinds.{widthOf, heightOf}
 use Rattle.bitstream.specs.Half.{half}
 use Rattle.matrix.specs.Mirror.{mirror, straightPlace, transposedPlace}
 use Rattle.matrix.specs.Raw.{weightOf, refused}
 use Rattle.matrix.specs.Weight.{weightsOf}
 use Rattle.matrix.specs.declared.Expanded.the-variants.{Done}
 use Rattle.matrix.specs.Expanded.{expandAnswer}
-use Rattle.matrix.proofs.Distinct.{half-coarse, larger, distinct}
+use Rattle.promises.proofs.Distinct.{half-coarse, larger, distinct}
 use Rattle.matrix.proofs.Said.{raw-at}
-use Rattle.matrix.proofs.Places.{weights-at, mirror-at, not-refused}
+use Rattle.promises.proofs.Places.{weights-at, mirror-at, not-refused}
 
 -- a raw kind that is expanded, and a place of it
 pub record Raw (k : ℕ) (row : List ℕ) (zs : List ℤ) (s t : ℕ) : Type 0 where

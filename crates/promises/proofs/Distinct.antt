@@ -18,9 +18,9 @@ use lib.Ieee.Positive.{num, den, den-pos, positive, positive-finite, first-pos, 
 use Rattle.bitstream.specs.Half.{half}
 use Rattle.bitstream.proofs.HalfLaws.{half-exact}
 use Rattle.bands.specs.Bands.{nought}
 use Rattle.matrix.specs.Raw.{weightOf, refused, limit}
 use Rattle.transform.proofs.Laws.{side}
-use Rattle.matrix.proofs.Strict.{multiples}
+use Rattle.promises.proofs.Strict.{multiples}
 
 -- ---- an accepted weight is finite and above zero
 over : (a b : Bool) → (a || b) ≡ false → a ≡ false
