@@ -4,11 +4,11 @@ use mathlib.Core.Bool.{Bool, true, cond}
 use mathlib.Core.Logic.{⊎-elim}
 use mathlib.Core.List.{List, [], _++_}
 use Prim.Native.Nat.{ℕ, zero, suc, _+_, _*_, _≤_, _<_}
-use native.Mathlib.Nat.{le-of-eq, le-trans, le-refl, lt-of-lt-of-le, add-assoc, eq-or-lt-of-le, le-of-suc-le-suc, not-suc-le-zero}
+use native.Mathlib.Nat.{le-of-eq, le-trans, le-refl, add-assoc, eq-or-lt-of-le, le-of-suc-le-suc, not-suc-le-zero}
 use native.Mathlib.Omega.{arith}
 use borrow.Author.Tests.{lt-ltb, eq-eqb}
 use lib.ListN.{length, getD, take, drop, length-append}
-use lib.Seq.{take-append-le, drop-append-le, take-at, drop-at, take-all, getD-take, getD-drop, length-take-le}
+use lib.Seq.{take-append-le, drop-append-le, drop-at, take-all, getD-take, getD-drop}
 use lib.Ieee.{Float, nan}
 use Rattle.transform.specs.Kinds.{areaOf, placesOf, startOf, part}
 use Rattle.transform.proofs.Laws.{total}
@@ -16,7 +16,6 @@ use Rattle.matrix.proofs.Chain.{next}
 use Rattle.dequant.specs.declared.shown.Order.{Order}
 use Rattle.dequant.specs.Set.{arenaOf}
 use Rattle.dequant.specs.Shown.{named, channelPart, found, shown}
-use Rattle.dequant.proofs.Parts.{channel-end}
 
 start-is : (k : ℕ) → startOf (suc k) ≡ startOf k + placesOf k
 unfolding startOf

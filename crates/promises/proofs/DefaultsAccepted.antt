@@ -24,10 +24,9 @@ use Rattle.matrix.specs.Numbers.{each, readNumbers, defaultNumbers, defaultValu
 use Rattle.transform.specs.First.{before}
 use Rattle.transform.proofs.FirstLaws.{before-every}
 use Rattle.transform.specs.Kinds.{placesOf, part}
-use Rattle.params.specs.Allowed.{rowAt, modeAt, rowAllowed, entryRow, flagRow, flagFault, rowFault}
+use Rattle.params.specs.Allowed.{rowAt, modeAt, rowAllowed, entryRow, flagRow, flagFault, checkRows, checkReply}
 use Rattle.params.proofs.FaultLaws.{allowed-entry}
 use Rattle.matrix.specs.declared.numbers.Numbers.{Numbers}
-use Rattle.matrix.specs.declared.Expanded.the-variants.{Done}
 use Rattle.matrix.specs.Expanded.{replyOf, kindAnswer, expandAnswer}
 use Rattle.matrix.specs.Views.{Shaped}
 use Rattle.matrix.proofs.Lending.{by-samples}
@@ -36,10 +35,10 @@ use Rattle.matrix.proofs.Said.{says-kind}
 use Rattle.params.specs.Raw.{anyRaw}
 use Rattle.dequant.specs.Set.{setLent, expandSet}
 use Rattle.params.proofs.RawLaws.{no-samples}
-use Rattle.dequant.proofs.Lent.{says-kinds}
 use Rattle.dequant.proofs.Lent.{by-samples as set-by-samples}
 use Rattle.dequant.proofs.Kindwise.{mode-at}
-use Rattle.promises.proofs.Accepts.{kinds-done}
+use Rattle.promises.proofs.RowsChecked.{rows-pass}
+use Rattle.promises.proofs.Accepts.{set-accepts}
 use Rattle.promises.proofs.RawOnes.{many, many-length, many-row, drop-more}
 use Rattle.promises.proofs.RowNumbers.{listNumber, ownList, at-place, place, inside, defaults-room}
 use Rattle.promises.proofs.Tame.{used, Tame, tame-accepts}
@@ -206,7 +205,7 @@ unfolding numbersOf
 default-numbers row k e = ap (λ (m : ℕ). cond (eqb m 0) (defaultNumbers k) (readNumbers row)) e
 
 -- a row of mode 0: BAND and WEIGHT let every kind's default pass, whatever samples are lent
-pub default-accepts : (k : ℕ) (row : List ℕ) (zs : List ℤ) → k < 17 → getD row 0 0 ≡ 0 → kindAnswer row zs k ≡ Done
+pub default-accepts : (k : ℕ) (row : List ℕ) (zs : List ℤ) → k < 17 → getD row 0 0 ≡ 0 → replyOf (kindAnswer row zs k) ≡ 0 ∷ []
 default-accepts k row zs h e =
     tame-accepts k row zs (subst (λ (n : Numbers). Shaped n k) (sym (default-numbers row k e)) (default-shaped k h)) (subst Tame (sym (default-numbers row k e)) (default-tame k h))
 
@@ -219,8 +218,8 @@ zero-allowed k h = sym (allowed-entry k zeroRow (le-of-suc-le-suc h) (unfold ent
 -- the default of every kind by itself, lent no samples and two outputs of its places, answers DONE
 pub default-done : (k : ℕ) → k < 17 → replyOf (expandAnswer k zeroRow [] (placesOf k) (placesOf k)) ≡ 0 ∷ []
 default-done k h =
-    ap replyOf (sym (says-kind k zeroRow [] (placesOf k) (placesOf k) (sym (by-samples k zeroRow 0 (placesOf k) (placesOf k) (placesOf k) refl true (le-of-suc-le-suc h) refl refl refl (sym (always (eqb 0 (placesOf k)))))) (zero-allowed k h))
-    ∙ default-accepts k zeroRow [] h refl)
+    sym (ap replyOf (says-kind k zeroRow [] (placesOf k) (placesOf k) (sym (by-samples k zeroRow 0 (placesOf k) (placesOf k) (placesOf k) refl true (le-of-suc-le-suc h) refl refl refl (sym (always (eqb 0 (placesOf k)))))) (zero-allowed k h)))
+    ∙ default-accepts k zeroRow [] h refl
   where
     always : (b : Bool) → (b || true) ≡ true
     always true = refl
@@ -228,8 +227,9 @@ default-done k h =
 
 -- ---- a set
 -- any set of rows of mode 0 that passes LENT and ROW is accepted, whatever samples it is lent
-pub default-set : (rows : List ℕ) (zs : List ℤ) (s t : ℕ) → setLent rows (length zs) s t ≡ true → 17 ≤ rowFault rows → ((k : ℕ) → k < 17 → modeAt rows k ≡ 0) → expandSet rows zs s t ≡ Done
-default-set rows zs s t lent ok f = sym (says-kinds rows zs s t lent ok) ∙ kinds-done rows zs 17 (λ k h. default-accepts k (rowAt rows k) (part k zs) h (mode-at rows k ∙ f k h))
+pub default-set : (rows : List ℕ) (zs : List ℤ) (s t : ℕ) → setLent rows (length zs) s t ≡ true → checkReply (checkRows rows) ≡ 0 ∷ [] → ((k : ℕ) → k < 17 → modeAt rows k ≡ 0)
+    → replyOf (expandSet rows zs s t) ≡ 0 ∷ []
+default-set rows zs s t lent ok f = set-accepts rows zs s t lent ok (λ k h. default-accepts k (rowAt rows k) (part k zs) h (mode-at rows k ∙ f k h))
 
 -- a first row, and 16 of zeros behind it
 abbrev pub headed : List ℕ → List ℕ
@@ -258,12 +258,9 @@ module _ (first : List ℕ) (long : length first ≡ 128) (mode : getD first 0 0
   modes-every : before (λ kind. eqb (modeAt (headed first) kind) 0) 17 ≡ 17
   modes-every = before-every (λ kind. eqb (modeAt (headed first) kind) 0) 17 (λ k h. eq-eqb (modeAt (headed first) k) 0 (rows-mode k h))
 
-  no-fault : 17 ≤ rowFault (headed first)
-  unfolding rowFault flagFault
-  no-fault =
-      le-of-eq (sym (ap (λ (n : ℕ). cond (eqb (getD (headed first) 126 0) 1 && ltb n 17) 0 (before (λ kind. rowAllowed kind (rowAt (headed first) kind)) 17)) modes-every
-      ∙ ap (λ (b : Bool). cond b 0 (before (λ kind. rowAllowed kind (rowAt (headed first) kind)) 17)) (and-false (eqb (getD (headed first) 126 0) 1))
-      ∙ before-every (λ kind. rowAllowed kind (rowAt (headed first) kind)) 17 rows-allowed))
+  no-flag : flagFault (headed first) ≡ false
+  unfolding flagFault
+  no-flag = ap (λ (n : ℕ). eqb (getD (headed first) 126 0) 1 && ltb n 17) modes-every ∙ and-false (eqb (getD (headed first) 126 0) 1)
     where
       and-false : (b : Bool) → (b && false) ≡ false
       and-false true = refl
@@ -278,7 +275,7 @@ module _ (first : List ℕ) (long : length first ≡ 128) (mode : getD first 0 0
 
   -- a set whose first row is of mode 0 and passes ROW, with 16 rows of zeros behind it, answers DONE
   pub headed-done : replyOf (expandSet (headed first) [] 394752 394752) ≡ 0 ∷ []
-  headed-done = ap replyOf (default-set (headed first) [] 394752 394752 rows-lent no-fault rows-mode)
+  headed-done = default-set (headed first) [] 394752 394752 rows-lent (rows-pass (headed first) rows-length no-flag rows-allowed) rows-mode
 
 abbrev pub flaggedRow : List ℕ
 flaggedRow = replicate 126 0 ++ 1 ∷ 0 ∷ []
