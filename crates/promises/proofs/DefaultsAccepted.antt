@@ -235,25 +235,34 @@ default-set rows zs s t lent ok f = set-accepts rows zs s t lent ok (λ k h. def
 abbrev pub headed : List ℕ → List ℕ
 headed first = first ++ many 16 zeroRow
 
-headed-row : (first : List ℕ) (k : ℕ) → length first ≡ 128 → k < 16 → rowAt (headed first) (suc k) ≡ zeroRow
-headed-row first k l h =
-    ap (take 128) (ap (λ (a : ℕ). drop a (first ++ many 16 zeroRow)) (next k) ∙ drop-more 128 (k * 128) (first ++ many 16 zeroRow) ∙ ap (drop (k * 128)) (drop-at first (many 16 zeroRow) 128 l))
-    ∙ many-row 16 k zeroRow refl h
-  where
-    next : (k : ℕ) → suc k * 128 ≡ 128 + k * 128
-    next k = omega arith
+module _ (first : List ℕ) (long : length first ≡ 128) where
+  headed-row : (k : ℕ) → k < 16 → rowAt (headed first) (suc k) ≡ zeroRow
+  headed-row k h =
+      ap (take 128) (ap (λ (a : ℕ). drop a (first ++ many 16 zeroRow)) (next k) ∙ drop-more 128 (k * 128) (first ++ many 16 zeroRow) ∙ ap (drop (k * 128)) (drop-at first (many 16 zeroRow) 128 long))
+      ∙ many-row 16 k zeroRow refl h
+    where
+      next : (k : ℕ) → suc k * 128 ≡ 128 + k * 128
+      next k = omega arith
+
+  pub headed-first : rowAt (headed first) 0 ≡ first
+  headed-first = take-at first (many 16 zeroRow) 128 long
+
+  -- the 16 behind it are of mode 0
+  pub headed-mode : (k : ℕ) → suc k < 17 → modeAt (headed first) (suc k) ≡ 0
+  headed-mode k h = sym (mode-at (headed first) (suc k)) ∙ ap (λ (l : List ℕ). getD l 0 0) (headed-row k (le-of-suc-le-suc h))
+
+  -- all 17 pass ROW where the first does
+  pub headed-allowed : rowAllowed 0 first ≡ true → (k : ℕ) → k < 17 → rowAllowed k (rowAt (headed first) k) ≡ true
+  headed-allowed fine zero h = ap (rowAllowed 0) headed-first ∙ fine
+  headed-allowed fine (suc k) h = ap (rowAllowed (suc k)) (headed-row k (le-of-suc-le-suc h)) ∙ zero-allowed (suc k) h
+
+  pub headed-length : length (headed first) ≡ 2176
+  headed-length = length-append first (many 16 zeroRow) ∙ ap (λ (a : ℕ). a + length (many 16 zeroRow)) long ∙ ap (λ (a : ℕ). 128 + a) (many-length 16 zeroRow refl)
 
 module _ (first : List ℕ) (long : length first ≡ 128) (mode : getD first 0 0 ≡ 0) (fine : rowAllowed 0 first ≡ true) where
   rows-mode : (k : ℕ) → k < 17 → modeAt (headed first) k ≡ 0
-  rows-mode zero h = sym (mode-at (headed first) 0) ∙ ap (λ (l : List ℕ). getD l 0 0) (take-at first (many 16 zeroRow) 128 long) ∙ mode
-  rows-mode (suc k) h = sym (mode-at (headed first) (suc k)) ∙ ap (λ (l : List ℕ). getD l 0 0) (headed-row first k long (le-of-suc-le-suc h))
-
-  rows-allowed : (k : ℕ) → k < 17 → rowAllowed k (rowAt (headed first) k) ≡ true
-  rows-allowed zero h = ap (rowAllowed 0) (take-at first (many 16 zeroRow) 128 long) ∙ fine
-  rows-allowed (suc k) h = ap (rowAllowed (suc k)) (headed-row first k long (le-of-suc-le-suc h)) ∙ zero-allowed (suc k) h
-
-  rows-length : length (headed first) ≡ 2176
-  rows-length = length-append first (many 16 zeroRow) ∙ ap (λ (a : ℕ). a + length (many 16 zeroRow)) long ∙ ap (λ (a : ℕ). 128 + a) (many-length 16 zeroRow refl)
+  rows-mode zero h = sym (mode-at (headed first) 0) ∙ ap (λ (l : List ℕ). getD l 0 0) (headed-first first long) ∙ mode
+  rows-mode (suc k) h = headed-mode first long k h
 
   modes-every : before (λ kind. eqb (modeAt (headed first) kind) 0) 17 ≡ 17
   modes-every = before-every (λ kind. eqb (modeAt (headed first) kind) 0) 17 (λ k h. eq-eqb (modeAt (headed first) k) 0 (rows-mode k h))
@@ -271,11 +280,11 @@ module _ (first : List ℕ) (long : length first ≡ 128) (mode : getD first 0 0
   not-raw-rows = ap (λ (n : ℕ). ltb n 17) (before-every (λ k. not (eqb (modeAt (headed first) k) 7)) 17 (λ k h. ap (λ (m : ℕ). not (eqb m 7)) (rows-mode k h)))
 
   rows-lent : setLent (headed first) 0 394752 394752 ≡ true
-  rows-lent = sym (set-by-samples (headed first) 0 394752 394752 true rows-length refl refl (no-samples (headed first) 0 false (λ z. omega arith) (le-refl 0) (sym not-raw-rows)))
+  rows-lent = sym (set-by-samples (headed first) 0 394752 394752 true (headed-length first long) refl refl (no-samples (headed first) 0 false (λ z. omega arith) (le-refl 0) (sym not-raw-rows)))
 
   -- a set whose first row is of mode 0 and passes ROW, with 16 rows of zeros behind it, answers DONE
   pub headed-done : replyOf (expandSet (headed first) [] 394752 394752) ≡ 0 ∷ []
-  headed-done = default-set (headed first) [] 394752 394752 rows-lent (rows-pass (headed first) rows-length no-flag rows-allowed) rows-mode
+  headed-done = default-set (headed first) [] 394752 394752 rows-lent (rows-pass (headed first) (headed-length first long) no-flag (headed-allowed first long fine)) rows-mode
 
 abbrev pub flaggedRow : List ℕ
 flaggedRow = replicate 126 0 ++ 1 ∷ 0 ∷ []

@@ -33,4 +33,5 @@ pub mod JpegPart
 pub mod FirstWeight
 pub mod JpegNumbers
 pub mod NumbersToHold
+pub mod JpegThere
 pub mod Table
