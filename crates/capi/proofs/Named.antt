@@ -1,21 +1,21 @@
 -- The numbers that the C face gives for a part name the very part that the library shows.
 -- Assumes nothing.
-use mathlib.Core.Path.{_≡_, refl, sym, ap, _∙_}
+use mathlib.Core.Path.{_≡_, refl, ap, _∙_}
 use mathlib.Core.Bool.{Bool, true, false, cond, _&&_}
 use mathlib.Core.List.{List, [], _∷_}
-use Prim.Native.Nat.{ℕ, _+_, _*_, _≤_}
+use Prim.Native.Nat.{ℕ, _*_, _≤_}
 use borrow.Author.Tests.{le-leb}
-use lib.Dec.{leb, eqb}
+use lib.Dec.{eqb}
 use lib.IntN.{ℤ}
 use lib.ListN.{length, getD, take, drop}
 use lib.Ieee.{Float}
-use Rattle.transform.specs.Kinds.{areaOf, startOf}
-use Rattle.dequant.specs.Shown.{found, shown, channelPart, named}
+use Rattle.transform.specs.Kinds.{areaOf}
+use Rattle.dequant.specs.Shown.{channelStart, found, shown, channelPart, named}
 use Rattle.dequant.specs.declared.shown.Order.the-variants.{Unnamed, Straight, Transposed}
 use Rattle.dequant.specs.Jpeg.{jpegAnswer, jpegValues, givenBy}
 use Rattle.dequant.specs.declared.jpeg.Jpeg.{Jpeg}
 use Rattle.dequant.specs.declared.jpeg.Jpeg.the-variants.{Done, Lent, Row, None}
-use Rattle.capi.specs.Parts.{orderOf, partReply, lookupReply, jpegReply}
+use Rattle.capi.specs.Parts.{orderOf, arenaOf, partReply, lookupReply, jpegReply}
 
 -- the part of one of two arenas that three values name
 abbrev pub partOf : List Float → List Float → List ℕ → List Float
@@ -29,22 +29,24 @@ lookup-names s t k c o h =
     ∙ go (found k c (length s) (length t)) (eqb o 2) (eqb o 1)
   where
     go : (f x y : Bool)
-        → take (getD (cond f (0 ∷ cond x 1 0 ∷ (startOf k + c * areaOf k) ∷ areaOf k ∷ []) (1 ∷ [])) 3 0)
-        (drop (getD (cond f (0 ∷ cond x 1 0 ∷ (startOf k + c * areaOf k) ∷ areaOf k ∷ []) (1 ∷ [])) 2 0)
-        (cond (eqb (getD (cond f (0 ∷ cond x 1 0 ∷ (startOf k + c * areaOf k) ∷ areaOf k ∷ []) (1 ∷ [])) 1 0) 1) t s))
+        → take (getD (cond f (0 ∷ arenaOf (cond x Transposed (cond y Straight Unnamed)) ∷ channelStart k c ∷ areaOf k ∷ []) (1 ∷ [])) 3 0)
+        (drop (getD (cond f (0 ∷ arenaOf (cond x Transposed (cond y Straight Unnamed)) ∷ channelStart k c ∷ areaOf k ∷ []) (1 ∷ [])) 2 0)
+        (cond (eqb (getD (cond f (0 ∷ arenaOf (cond x Transposed (cond y Straight Unnamed)) ∷ channelStart k c ∷ areaOf k ∷ []) (1 ∷ [])) 1 0) 1) t s))
         ≡ cond f (channelPart k c (named (cond x Transposed (cond y Straight Unnamed)) s t)) []
     go true true y = refl
     go true false true = refl
     go true false false = refl
     go false x y = refl
 
--- the part of the samples that two values name
-pub jpeg-names : (rows : List ℕ) (zs : List ℤ) (c : ℕ)
-    → take (getD (jpegReply (c * 64) (jpegAnswer rows (length zs) c)) 2 0) (drop (c * 64) zs) ≡ jpegValues rows zs c
+-- the part of the samples that a reply's two values name: where it starts, and how long it is
+abbrev pub samplesOf : List ℤ → List ℕ → List ℤ
+samplesOf zs said = take (getD said 2 0) (drop (getD said 1 0) zs)
+
+pub jpeg-names : (rows : List ℕ) (zs : List ℤ) (c : ℕ) → samplesOf zs (jpegReply (c * 64) (jpegAnswer rows (length zs) c)) ≡ jpegValues rows zs c
 unfolding jpegValues
 jpeg-names rows zs c = go (jpegAnswer rows (length zs) c)
   where
-    go : (j : Jpeg) → take (getD (jpegReply (c * 64) j) 2 0) (drop (c * 64) zs) ≡ givenBy j (take 64 (drop (c * 64) zs))
+    go : (j : Jpeg) → samplesOf zs (jpegReply (c * 64) j) ≡ givenBy j (take 64 (drop (c * 64) zs))
     go Done = refl
     go Lent = refl
     go (Row k) = refl

@@ -5,13 +5,23 @@ use mathlib.Core.Bool.{Bool, true, false, cond, _&&_}
 use mathlib.Core.List.{List, [], _∷_}
 use Prim.Native.Nat.{ℕ, _+_, _*_, _≤_, _<_}
 use borrow.Author.Tests.{le-leb, lt-leb, lt-ltb}
-use lib.Dec.{leb, ltb}
+use lib.Dec.{ltb, eqb}
 use Rattle.transform.specs.Kinds.{areaOf, startOf}
 use Rattle.dequant.specs.Shown.{found}
 use Rattle.dequant.specs.Jpeg.{jpegLent, jpegAnswer}
 use Rattle.dequant.proofs.JpegLaws.{given, says-lent}
 use Rattle.dequant.specs.declared.jpeg.Jpeg.{Jpeg}
-use Rattle.capi.specs.Parts.{arenaNo, partReply, lookupReply, jpegReply}
+use Rattle.dequant.specs.declared.shown.Order.the-variants.{Unnamed, Straight, Transposed}
+use Rattle.capi.specs.Parts.{arenaOf, arenaNo, partReply, lookupReply, jpegReply}
+
+-- order 2 shows arena 1, every other order arena 0
+pub arena-is : (o : ℕ) (b : Bool) → eqb o 2 ≡ b → cond b 1 0 ≡ arenaNo o
+arena-is o b e = go b (eqb o 1) ∙ sym (ap (λ (x : Bool). arenaOf (cond x Transposed (cond (eqb o 1) Straight Unnamed))) e)
+  where
+    go : (x y : Bool) → cond x 1 0 ≡ arenaOf (cond x Transposed (cond y Straight Unnamed))
+    go true y = refl
+    go false true = refl
+    go false false = refl
 
 module _ (s t k c o : ℕ) where
   pub unknown-order : 2 < o → 1 ∷ [] ≡ lookupReply s t k c o

@@ -1,10 +1,10 @@
 -- A part as the C face gives it: where it starts and how long it is. Definitions only.
-use Prim.Native.Nat.{ℕ, _+_, _*_}
-use mathlib.Core.Bool.{Bool, _&&_, cond}
+use Prim.Native.Nat.{ℕ}
+use mathlib.Core.Bool.{_&&_, cond}
 use mathlib.Core.List.{List, [], _∷_}
 use lib.Dec.{leb, eqb}
-use Rattle.transform.specs.Kinds.{areaOf, startOf}
-use Rattle.dequant.specs.Shown.{found}
+use Rattle.transform.specs.Kinds.{areaOf}
+use Rattle.dequant.specs.Shown.{channelStart, found}
 use Rattle.dequant.specs.Jpeg.{jpegNumbers}
 use Rattle.dequant.specs.declared.jpeg.Jpeg.{Jpeg}
 use Rattle.dequant.specs.declared.jpeg.Jpeg.the-variants.{Done, Lent, Row, None}
@@ -15,13 +15,19 @@ use Rattle.dequant.specs.declared.shown.Order.the-variants.{Unnamed, Straight, 
 abbrev pub orderOf : ℕ → Order
 orderOf o = cond (eqb o 2) Transposed (cond (eqb o 1) Straight Unnamed)
 
--- the arena that an order shows: 0 straight, 1 transposed
+-- the number of the arena that an order shows: 0 straight, 1 transposed
+abbrev pub arenaOf : Order → ℕ
+arenaOf Unnamed = 0
+arenaOf Straight = 0
+arenaOf Transposed = 1
+
+-- the same by the order's number
 abbrev pub arenaNo : ℕ → ℕ
-arenaNo o = cond (eqb o 2) 1 0
+arenaNo o = arenaOf (orderOf o)
 
 -- the part of channel c of kind k: the arena, the first place, the length
 abbrev pub partReply : ℕ → ℕ → ℕ → List ℕ
-partReply k c o = 0 ∷ arenaNo o ∷ (startOf k + c * areaOf k) ∷ areaOf k ∷ []
+partReply k c o = 0 ∷ arenaNo o ∷ channelStart k c ∷ areaOf k ∷ []
 
 -- lookup in arenas of lengths s and t: DONE with the part; LENT for bad arguments, an unknown order among them
 unfoldable pub lookupReply : ℕ → ℕ → ℕ → ℕ → ℕ → List ℕ

@@ -1,9 +1,9 @@
 -- A set kind by kind: what each kind is handed, and the turns of the loop over the kinds. Assumes nothing.
 use mathlib.Core.Path.{_≡_, refl, sym, ap, _∙_, subst}
 use mathlib.Core.Bool.{Bool, true, false, not, cond, _&&_, _||_, true≢false}
-use mathlib.Core.Logic.{_⊎_, inl, inr, ⊎-elim}
+use mathlib.Core.Logic.{⊎-elim}
 use mathlib.Core.List.{List, [], _∷_, _++_, append-assoc}
-use Prim.Native.Nat.{ℕ, zero, suc, _+_, _-_, _*_, _/_, _%_, _≤_, _<_}
+use Prim.Native.Nat.{ℕ, _+_, _-_, _*_, _/_, _%_, _≤_, _<_}
 use native.Mathlib.Nat.{add-zero, le-of-eq}
 use native.Mathlib.Decide.{le-ind}
 use native.Mathlib.Numerals.{add-one}
@@ -20,13 +20,12 @@ use Rattle.transform.proofs.Laws.{end-le, total}
 use Rattle.params.specs.Allowed.{rowAt, modeAt}
 use Rattle.matrix.specs.Mirror.{mirror, passed}
 use Rattle.matrix.specs.Numbers.{numbersOf}
-use Rattle.matrix.specs.Weight.{weightsOf}
+use Rattle.matrix.specs.Weight.{weightAt, weightsOf}
 use Rattle.matrix.specs.Expanded.{isDone, orElse, samplesRight, lentRight, bandAnswer, weightAnswer, kindAnswer, expandAnswer, leaves}
 use Rattle.matrix.specs.declared.Expanded.{Expanded}
 use Rattle.matrix.specs.declared.Expanded.the-variants.{Done, Weight}
 use Rattle.matrix.proofs.Lending.{all-samples, by-samples}
 use Rattle.bands.proofs.TableLaws.{length-tab}
-use Rattle.matrix.proofs.Places.{weights-length}
 use Rattle.matrix.proofs.Answered.{refused-leaves}
 use Rattle.matrix.proofs.Replies.{done-is, stops}
 use Rattle.matrix.proofs.Said.{says-kind}
@@ -124,7 +123,8 @@ put-laid k st pl s ys e f =
     ∙ ap (λ (n : ℕ). take (startOf k) s ++ (ys ++ drop (startOf k + n) s)) f
 
 pub straight-length : (rows : List ℕ) (zs : List ℤ) (k : ℕ) → length (straightOf rows zs k) ≡ placesOf k
-straight-length rows zs k = weights-length (rowAt rows k) (part k zs) k
+unfolding weightsOf
+straight-length rows zs k = length-tab (placesOf k) (λ p. weightAt (rowAt rows k) (part k zs) k (p / areaOf k) (p % areaOf k))
 
 pub transposed-length : (rows : List ℕ) (zs : List ℤ) (k : ℕ) → length (transposedOf rows zs k) ≡ placesOf k
 unfolding mirror

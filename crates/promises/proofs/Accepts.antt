@@ -1,18 +1,16 @@
 -- When a kind, and when a set, is accepted: no band and no weight of it is refused. Assumes nothing.
 use mathlib.Core.Path.{_≡_, refl, sym, ap, _∙_}
-use mathlib.Core.Bool.{Bool, true, false, cond, _&&_}
+use mathlib.Core.Bool.{Bool, true, false, cond}
 use mathlib.Core.List.{List, [], _∷_, map}
-use Prim.Native.Nat.{ℕ, zero, suc, _/_, _%_, _≤_, _<_}
-use native.Mathlib.Nat.{le-of-eq, le-of-suc-le-suc, not-suc-le-zero, zero-lt-suc, lt-of-lt-of-le, le-suc, lt-suc-self}
-use borrow.Author.Tests.{le-ltb, eq-eqb}
+use Prim.Native.Nat.{ℕ, zero, suc, _/_, _%_, _<_}
+use native.Mathlib.Nat.{le-of-eq, le-of-suc-le-suc, not-suc-le-zero, lt-of-lt-of-le, le-suc, lt-suc-self}
+use borrow.Author.Tests.{le-ltb}
 use lib.IntN.{ℤ, pos}
 use lib.ListN.{length, getD, length-map, List·getD-map}
 use lib.Ieee.{Float, nan}
-use Rattle.transform.specs.First.{before}
-use Rattle.transform.proofs.FirstLaws.{before-every}
 use Rattle.transform.specs.Kinds.{areaOf, placesOf, part}
 use Rattle.bitstream.specs.Half.{half}
-use Rattle.params.specs.Allowed.{rowAt, rowAllowed, flagFault, rowFault}
+use Rattle.params.specs.Allowed.{rowAt, rowAllowed, checkRows, checkReply}
 use Rattle.bands.proofs.TableLaws.{getD-tab}
 use Rattle.matrix.specs.declared.Expanded.{Expanded}
 use Rattle.matrix.specs.declared.Expanded.the-variants.{Done, Weight}
@@ -20,14 +18,16 @@ use Rattle.matrix.specs.Mirror.{passed}
 use Rattle.matrix.specs.Raw.{weightOf, refused}
 use Rattle.matrix.specs.Numbers.{numbersOf}
 use Rattle.matrix.specs.Weight.{weightAt, weightsOf}
-use Rattle.matrix.specs.Expanded.{orElse, bandAnswer, weightAnswer, kindAnswer, expandAnswer}
+use Rattle.matrix.specs.Expanded.{replyOf, orElse, bandAnswer, weightAnswer, kindAnswer, expandAnswer}
 use Rattle.matrix.proofs.Lending.{all-samples, by-samples}
 use Rattle.matrix.proofs.Passed.{passed-all}
-use Rattle.matrix.proofs.Places.{weights-length}
+use Rattle.promises.proofs.Places.{weights-length}
 use Rattle.matrix.proofs.RowFacts.{facts}
 use Rattle.matrix.proofs.Said.{says-kind, raw-answer, raw-meaning}
 use Rattle.dequant.specs.Set.{kindsAnswer, setLent, expandSet}
 use Rattle.dequant.proofs.Lent.{says-kinds}
+use Rattle.promises.proofs.ByNumber.{done-only}
+use Rattle.promises.proofs.RowsChecked.{done-fault}
 
 -- ---- weights
 weights-done : (k : ℕ) (ws : List Float) → ((i : ℕ) → i < length ws → refused (getD ws i nan) ≡ false) → weightAnswer k ws ≡ Done
@@ -35,20 +35,20 @@ unfolding weightAnswer
 weights-done k ws f = ap (λ (b : Bool). cond b (Weight k (passed ws / areaOf k) (passed ws % areaOf k)) Done) (le-ltb (passed ws) (length ws) (le-of-eq (sym (passed-all ws f))))
 
 -- a kind whose bands and weights are not refused is accepted by BAND and WEIGHT; LENT and ROW are not spoken of
-pub kind-accepts : (k : ℕ) (row : List ℕ) (zs : List ℤ) → bandAnswer (numbersOf row k) k 3 ≡ Done → ((p : ℕ) → p < placesOf k → refused (weightAt row zs k (p / areaOf k) (p % areaOf k)) ≡ false)
-    → kindAnswer row zs k ≡ Done
+pub kind-accepts : (k : ℕ) (row : List ℕ) (zs : List ℤ) → replyOf (bandAnswer (numbersOf row k) k 3) ≡ 0 ∷ [] → ((p : ℕ) → p < placesOf k → refused (weightAt row zs k (p / areaOf k) (p % areaOf k)) ≡ false)
+    → replyOf (kindAnswer row zs k) ≡ 0 ∷ []
 unfolding kindAnswer weightsOf
 kind-accepts k row zs b f =
-    ap (λ (a : Expanded). orElse a (weightAnswer k (weightsOf row zs k))) b
-    ∙ weights-done k (weightsOf row zs k) (λ i h. let g : i < placesOf k = lt-of-lt-of-le h (le-of-eq (weights-length row zs k)) in ap refused (getD-tab (placesOf k) (λ p. weightAt row zs k (p / areaOf k) (p % areaOf k)) i nan g) ∙ f i g)
+    ap (λ (a : Expanded). replyOf (orElse a (weightAnswer k (weightsOf row zs k)))) (done-only (bandAnswer (numbersOf row k) k 3) b)
+    ∙ ap replyOf (weights-done k (weightsOf row zs k) (λ i h. let g : i < placesOf k = lt-of-lt-of-le h (le-of-eq (weights-length row zs k)) in ap refused (getD-tab (placesOf k) (λ p. weightAt row zs k (p / areaOf k) (p % areaOf k)) i nan g) ∙ f i g))
 
 -- a raw kind is accepted where no sample times the denominator is refused; for a row that passes ROW and samples of the kind's number
 pub raw-accepts : (k : ℕ) (row : List ℕ) (zs : List ℤ) → rowAllowed k row ≡ true → getD row 0 0 ≡ 7 → length zs ≡ placesOf k
-    → ((i : ℕ) → i < placesOf k → refused (weightOf (half (getD row 3 0)) (getD zs i (pos 0))) ≡ false) → kindAnswer row zs k ≡ Done
+    → ((i : ℕ) → i < placesOf k → refused (weightOf (half (getD row 3 0)) (getD zs i (pos 0))) ≡ false) → replyOf (kindAnswer row zs k) ≡ 0 ∷ []
 raw-accepts k row zs ok m l f =
-    sym (raw-answer k row zs (facts k row ok) m)
+    ap replyOf (sym (raw-answer k row zs (facts k row ok) m)
     ∙ ap (weightAnswer k) (sym (raw-meaning row zs k m l))
-    ∙ weights-done k (map (weightOf (half (getD row 3 0))) zs) fine
+    ∙ weights-done k (map (weightOf (half (getD row 3 0))) zs) fine)
   where
     fine : (i : ℕ) → i < length (map (weightOf (half (getD row 3 0))) zs) → refused (getD (map (weightOf (half (getD row 3 0))) zs) i nan) ≡ false
     fine i h =
@@ -69,19 +69,14 @@ alone k row zs h l m ok =
 
 -- ---- a set
 -- kinds that are accepted each by itself are accepted one after the other
-pub kinds-done : (rows : List ℕ) (zs : List ℤ) (n : ℕ) → ((k : ℕ) → k < n → kindAnswer (rowAt rows k) (part k zs) k ≡ Done) → kindsAnswer rows zs n ≡ Done
+pub kinds-done : (rows : List ℕ) (zs : List ℤ) (n : ℕ) → ((k : ℕ) → k < n → replyOf (kindAnswer (rowAt rows k) (part k zs) k) ≡ 0 ∷ []) → kindsAnswer rows zs n ≡ Done
 unfolding kindsAnswer
 kinds-done rows zs zero f = refl
 kinds-done rows zs (suc n) f =
     ap (λ (a : Expanded). orElse a (kindAnswer (rowAt rows n) (part n zs) n)) (kinds-done rows zs n (λ k h. f k (lt-of-lt-of-le h (le-suc n))))
-    ∙ f n (lt-suc-self n)
-
-rows-right : (rows : List ℕ) → flagFault rows ≡ false → ((k : ℕ) → k < 17 → rowAllowed k (rowAt rows k) ≡ true) → 17 ≤ rowFault rows
-unfolding rowFault
-rows-right rows e f =
-    le-of-eq (sym (ap (λ (b : Bool). cond b 0 (before (λ kind. rowAllowed kind (rowAt rows kind)) 17)) e ∙ before-every (λ kind. rowAllowed kind (rowAt rows kind)) 17 f))
+    ∙ done-only (kindAnswer (rowAt rows n) (part n zs) n) (f n (lt-suc-self n))
 
 -- a set that is lent right, whose rows pass ROW and each of whose kinds is accepted, is accepted
-pub set-accepts : (rows : List ℕ) (zs : List ℤ) (s t : ℕ) → setLent rows (length zs) s t ≡ true → flagFault rows ≡ false → ((k : ℕ) → k < 17 → rowAllowed k (rowAt rows k) ≡ true)
-    → ((k : ℕ) → k < 17 → kindAnswer (rowAt rows k) (part k zs) k ≡ Done) → expandSet rows zs s t ≡ Done
-set-accepts rows zs s t lent flag ok f = sym (says-kinds rows zs s t lent (rows-right rows flag ok)) ∙ kinds-done rows zs 17 f
+pub set-accepts : (rows : List ℕ) (zs : List ℤ) (s t : ℕ) → setLent rows (length zs) s t ≡ true → checkReply (checkRows rows) ≡ 0 ∷ []
+    → ((k : ℕ) → k < 17 → replyOf (kindAnswer (rowAt rows k) (part k zs) k) ≡ 0 ∷ []) → replyOf (expandSet rows zs s t) ≡ 0 ∷ []
+set-accepts rows zs s t lent checked f = ap replyOf (sym (says-kinds rows zs s t lent (done-fault rows checked .1)) ∙ kinds-done rows zs 17 f)

@@ -15,3 +15,10 @@ pub coincide-two : {A B C : Type 0} (s : A) (t : A → B) (u : A → C) (r q : A
 coincide-two s t u r q x y v w e f =
     let same = coincide s r q (e .0) (f .0) in
     (same, e .1 ∙ ap t same ∙ sym (f .1), e .2 ∙ ap u same ∙ sym (f .2))
+
+-- with three lent slices
+pub coincide-three : {A B C D : Type 0} (s : A) (t : A → B) (u : A → C) (v : A → D) (r q : A) (x y : B) (w z : C) (m n : D)
+    → (r ≡ s) × (x ≡ t r) × (w ≡ u r) × (m ≡ v r) → (q ≡ s) × (y ≡ t q) × (z ≡ u q) × (n ≡ v q) → (r ≡ q) × (x ≡ y) × (w ≡ z) × (m ≡ n)
+coincide-three s t u v r q x y w z m n e f =
+    let same = coincide s r q (e .0) (f .0) in
+    (same, e .1 ∙ ap t same ∙ sym (f .1), e .2 ∙ ap u same ∙ sym (f .2), e .3 ∙ ap v same ∙ sym (f .3))

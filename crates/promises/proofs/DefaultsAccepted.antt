@@ -24,10 +24,9 @@ use Rattle.matrix.specs.Numbers.{each, readNumbers, defaultNumbers, defaultValu
 use Rattle.transform.specs.First.{before}
 use Rattle.transform.proofs.FirstLaws.{before-every}
 use Rattle.transform.specs.Kinds.{placesOf, part}
-use Rattle.params.specs.Allowed.{rowAt, modeAt, rowAllowed, entryRow, flagRow, flagFault, rowFault}
+use Rattle.params.specs.Allowed.{rowAt, modeAt, rowAllowed, entryRow, flagRow, flagFault, checkRows, checkReply}
 use Rattle.params.proofs.FaultLaws.{allowed-entry}
 use Rattle.matrix.specs.declared.numbers.Numbers.{Numbers}
-use Rattle.matrix.specs.declared.Expanded.the-variants.{Done}
 use Rattle.matrix.specs.Expanded.{replyOf, kindAnswer, expandAnswer}
 use Rattle.matrix.specs.Views.{Shaped}
 use Rattle.matrix.proofs.Lending.{by-samples}
@@ -36,10 +35,10 @@ use Rattle.matrix.proofs.Said.{says-kind}
 use Rattle.params.specs.Raw.{anyRaw}
 use Rattle.dequant.specs.Set.{setLent, expandSet}
 use Rattle.params.proofs.RawLaws.{no-samples}
-use Rattle.dequant.proofs.Lent.{says-kinds}
 use Rattle.dequant.proofs.Lent.{by-samples as set-by-samples}
 use Rattle.dequant.proofs.Kindwise.{mode-at}
-use Rattle.promises.proofs.Accepts.{kinds-done}
+use Rattle.promises.proofs.RowsChecked.{rows-pass}
+use Rattle.promises.proofs.Accepts.{set-accepts}
 use Rattle.promises.proofs.RawOnes.{many, many-length, many-row, drop-more}
 use Rattle.promises.proofs.RowNumbers.{listNumber, ownList, at-place, place, inside, defaults-room}
 use Rattle.promises.proofs.Tame.{used, Tame, tame-accepts}
@@ -206,7 +205,7 @@ unfolding numbersOf
 default-numbers row k e = ap (λ (m : ℕ). cond (eqb m 0) (defaultNumbers k) (readNumbers row)) e
 
 -- a row of mode 0: BAND and WEIGHT let every kind's default pass, whatever samples are lent
-pub default-accepts : (k : ℕ) (row : List ℕ) (zs : List ℤ) → k < 17 → getD row 0 0 ≡ 0 → kindAnswer row zs k ≡ Done
+pub default-accepts : (k : ℕ) (row : List ℕ) (zs : List ℤ) → k < 17 → getD row 0 0 ≡ 0 → replyOf (kindAnswer row zs k) ≡ 0 ∷ []
 default-accepts k row zs h e =
     tame-accepts k row zs (subst (λ (n : Numbers). Shaped n k) (sym (default-numbers row k e)) (default-shaped k h)) (subst Tame (sym (default-numbers row k e)) (default-tame k h))
 
@@ -219,8 +218,8 @@ zero-allowed k h = sym (allowed-entry k zeroRow (le-of-suc-le-suc h) (unfold ent
 -- the default of every kind by itself, lent no samples and two outputs of its places, answers DONE
 pub default-done : (k : ℕ) → k < 17 → replyOf (expandAnswer k zeroRow [] (placesOf k) (placesOf k)) ≡ 0 ∷ []
 default-done k h =
-    ap replyOf (sym (says-kind k zeroRow [] (placesOf k) (placesOf k) (sym (by-samples k zeroRow 0 (placesOf k) (placesOf k) (placesOf k) refl true (le-of-suc-le-suc h) refl refl refl (sym (always (eqb 0 (placesOf k)))))) (zero-allowed k h))
-    ∙ default-accepts k zeroRow [] h refl)
+    sym (ap replyOf (says-kind k zeroRow [] (placesOf k) (placesOf k) (sym (by-samples k zeroRow 0 (placesOf k) (placesOf k) (placesOf k) refl true (le-of-suc-le-suc h) refl refl refl (sym (always (eqb 0 (placesOf k)))))) (zero-allowed k h)))
+    ∙ default-accepts k zeroRow [] h refl
   where
     always : (b : Bool) → (b || true) ≡ true
     always true = refl
@@ -228,42 +227,49 @@ default-done k h =
 
 -- ---- a set
 -- any set of rows of mode 0 that passes LENT and ROW is accepted, whatever samples it is lent
-pub default-set : (rows : List ℕ) (zs : List ℤ) (s t : ℕ) → setLent rows (length zs) s t ≡ true → 17 ≤ rowFault rows → ((k : ℕ) → k < 17 → modeAt rows k ≡ 0) → expandSet rows zs s t ≡ Done
-default-set rows zs s t lent ok f = sym (says-kinds rows zs s t lent ok) ∙ kinds-done rows zs 17 (λ k h. default-accepts k (rowAt rows k) (part k zs) h (mode-at rows k ∙ f k h))
+pub default-set : (rows : List ℕ) (zs : List ℤ) (s t : ℕ) → setLent rows (length zs) s t ≡ true → checkReply (checkRows rows) ≡ 0 ∷ [] → ((k : ℕ) → k < 17 → modeAt rows k ≡ 0)
+    → replyOf (expandSet rows zs s t) ≡ 0 ∷ []
+default-set rows zs s t lent ok f = set-accepts rows zs s t lent ok (λ k h. default-accepts k (rowAt rows k) (part k zs) h (mode-at rows k ∙ f k h))
 
 -- a first row, and 16 of zeros behind it
 abbrev pub headed : List ℕ → List ℕ
 headed first = first ++ many 16 zeroRow
 
-headed-row : (first : List ℕ) (k : ℕ) → length first ≡ 128 → k < 16 → rowAt (headed first) (suc k) ≡ zeroRow
-headed-row first k l h =
-    ap (take 128) (ap (λ (a : ℕ). drop a (first ++ many 16 zeroRow)) (next k) ∙ drop-more 128 (k * 128) (first ++ many 16 zeroRow) ∙ ap (drop (k * 128)) (drop-at first (many 16 zeroRow) 128 l))
-    ∙ many-row 16 k zeroRow refl h
-  where
-    next : (k : ℕ) → suc k * 128 ≡ 128 + k * 128
-    next k = omega arith
+module _ (first : List ℕ) (long : length first ≡ 128) where
+  headed-row : (k : ℕ) → k < 16 → rowAt (headed first) (suc k) ≡ zeroRow
+  headed-row k h =
+      ap (take 128) (ap (λ (a : ℕ). drop a (first ++ many 16 zeroRow)) (next k) ∙ drop-more 128 (k * 128) (first ++ many 16 zeroRow) ∙ ap (drop (k * 128)) (drop-at first (many 16 zeroRow) 128 long))
+      ∙ many-row 16 k zeroRow refl h
+    where
+      next : (k : ℕ) → suc k * 128 ≡ 128 + k * 128
+      next k = omega arith
+
+  pub headed-first : rowAt (headed first) 0 ≡ first
+  headed-first = take-at first (many 16 zeroRow) 128 long
+
+  -- the 16 behind it are of mode 0
+  pub headed-mode : (k : ℕ) → suc k < 17 → modeAt (headed first) (suc k) ≡ 0
+  headed-mode k h = sym (mode-at (headed first) (suc k)) ∙ ap (λ (l : List ℕ). getD l 0 0) (headed-row k (le-of-suc-le-suc h))
+
+  -- all 17 pass ROW where the first does
+  pub headed-allowed : rowAllowed 0 first ≡ true → (k : ℕ) → k < 17 → rowAllowed k (rowAt (headed first) k) ≡ true
+  headed-allowed fine zero h = ap (rowAllowed 0) headed-first ∙ fine
+  headed-allowed fine (suc k) h = ap (rowAllowed (suc k)) (headed-row k (le-of-suc-le-suc h)) ∙ zero-allowed (suc k) h
+
+  pub headed-length : length (headed first) ≡ 2176
+  headed-length = length-append first (many 16 zeroRow) ∙ ap (λ (a : ℕ). a + length (many 16 zeroRow)) long ∙ ap (λ (a : ℕ). 128 + a) (many-length 16 zeroRow refl)
 
 module _ (first : List ℕ) (long : length first ≡ 128) (mode : getD first 0 0 ≡ 0) (fine : rowAllowed 0 first ≡ true) where
   rows-mode : (k : ℕ) → k < 17 → modeAt (headed first) k ≡ 0
-  rows-mode zero h = sym (mode-at (headed first) 0) ∙ ap (λ (l : List ℕ). getD l 0 0) (take-at first (many 16 zeroRow) 128 long) ∙ mode
-  rows-mode (suc k) h = sym (mode-at (headed first) (suc k)) ∙ ap (λ (l : List ℕ). getD l 0 0) (headed-row first k long (le-of-suc-le-suc h))
-
-  rows-allowed : (k : ℕ) → k < 17 → rowAllowed k (rowAt (headed first) k) ≡ true
-  rows-allowed zero h = ap (rowAllowed 0) (take-at first (many 16 zeroRow) 128 long) ∙ fine
-  rows-allowed (suc k) h = ap (rowAllowed (suc k)) (headed-row first k long (le-of-suc-le-suc h)) ∙ zero-allowed (suc k) h
-
-  rows-length : length (headed first) ≡ 2176
-  rows-length = length-append first (many 16 zeroRow) ∙ ap (λ (a : ℕ). a + length (many 16 zeroRow)) long ∙ ap (λ (a : ℕ). 128 + a) (many-length 16 zeroRow refl)
+  rows-mode zero h = sym (mode-at (headed first) 0) ∙ ap (λ (l : List ℕ). getD l 0 0) (headed-first first long) ∙ mode
+  rows-mode (suc k) h = headed-mode first long k h
 
   modes-every : before (λ kind. eqb (modeAt (headed first) kind) 0) 17 ≡ 17
   modes-every = before-every (λ kind. eqb (modeAt (headed first) kind) 0) 17 (λ k h. eq-eqb (modeAt (headed first) k) 0 (rows-mode k h))
 
-  no-fault : 17 ≤ rowFault (headed first)
-  unfolding rowFault flagFault
-  no-fault =
-      le-of-eq (sym (ap (λ (n : ℕ). cond (eqb (getD (headed first) 126 0) 1 && ltb n 17) 0 (before (λ kind. rowAllowed kind (rowAt (headed first) kind)) 17)) modes-every
-      ∙ ap (λ (b : Bool). cond b 0 (before (λ kind. rowAllowed kind (rowAt (headed first) kind)) 17)) (and-false (eqb (getD (headed first) 126 0) 1))
-      ∙ before-every (λ kind. rowAllowed kind (rowAt (headed first) kind)) 17 rows-allowed))
+  no-flag : flagFault (headed first) ≡ false
+  unfolding flagFault
+  no-flag = ap (λ (n : ℕ). eqb (getD (headed first) 126 0) 1 && ltb n 17) modes-every ∙ and-false (eqb (getD (headed first) 126 0) 1)
     where
       and-false : (b : Bool) → (b && false) ≡ false
       and-false true = refl
@@ -274,11 +280,11 @@ module _ (first : List ℕ) (long : length first ≡ 128) (mode : getD first 0 0
   not-raw-rows = ap (λ (n : ℕ). ltb n 17) (before-every (λ k. not (eqb (modeAt (headed first) k) 7)) 17 (λ k h. ap (λ (m : ℕ). not (eqb m 7)) (rows-mode k h)))
 
   rows-lent : setLent (headed first) 0 394752 394752 ≡ true
-  rows-lent = sym (set-by-samples (headed first) 0 394752 394752 true rows-length refl refl (no-samples (headed first) 0 false (λ z. omega arith) (le-refl 0) (sym not-raw-rows)))
+  rows-lent = sym (set-by-samples (headed first) 0 394752 394752 true (headed-length first long) refl refl (no-samples (headed first) 0 false (λ z. omega arith) (le-refl 0) (sym not-raw-rows)))
 
   -- a set whose first row is of mode 0 and passes ROW, with 16 rows of zeros behind it, answers DONE
   pub headed-done : replyOf (expandSet (headed first) [] 394752 394752) ≡ 0 ∷ []
-  headed-done = ap replyOf (default-set (headed first) [] 394752 394752 rows-lent no-fault rows-mode)
+  headed-done = default-set (headed first) [] 394752 394752 rows-lent (rows-pass (headed first) (headed-length first long) no-flag (headed-allowed first long fine)) rows-mode
 
 abbrev pub flaggedRow : List ℕ
 flaggedRow = replicate 126 0 ++ 1 ∷ 0 ∷ []

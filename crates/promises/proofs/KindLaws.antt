@@ -1,10 +1,10 @@
 -- What reading the kinds from one on leaves in that kind's row: its own row if its entry is read whole, and else what was there.
 use mathlib.Core.Path.{_≡_, refl, sym, ap, _∙_}
-use mathlib.Core.List.{List, [], _∷_, _++_, append-assoc}
+use mathlib.Core.List.{List, _++_, append-assoc}
 use Prim.Native.Nat.{ℕ, zero, suc, _+_, _-_, _*_, _≤_, _<_}
 use native.Mathlib.Omega.{arith}
-use lib.ListN.{length, getD, take, drop, replicate, length-drop, length-replicate, getD-replicate, take-append-drop}
-use lib.Seq.{paste, length-paste, length-take-le, take-append-le, drop-append-le, take-at, drop-at, take-all, getD-take, getD-drop}
+use lib.ListN.{length, take, drop, length-drop, take-append-drop}
+use lib.Seq.{length-paste, length-take-le, take-append-le, drop-append-le, take-at, drop-at, take-all}
 use Rattle.params.specs.declared.read.Reading.{Reading}
 use Rattle.params.specs.declared.read.Reading.the-variants.{Done, Lent, Short, Mode, Float, Raw}
 use Rattle.params.specs.Row.{Hand, on, short, mode, float, entry}

@@ -1,5 +1,7 @@
 -- Theorems over all crates, on the definitions that their contracts cite.
 pub mod Coincide
+pub mod ByNumber
+pub mod RowsChecked
 pub mod RowNumbers
 pub mod RowRatios
 pub mod Accepts
@@ -18,6 +20,21 @@ pub mod Tame
 pub mod DefaultsAccepted
 pub mod Steps
 pub mod OnlyJpeg
+pub mod Strict
+pub mod Distinct
+pub mod WeightRange
+pub mod Places
+pub mod RawPlaces
+pub mod Arena
+pub mod AcceptedSet
+pub mod Shows
+pub mod Differ
+pub mod JpegPart
+pub mod FirstWeight
+pub mod JpegNumbers
+pub mod NumbersToHold
+pub mod JpegThere
+pub mod Table
 pub mod RecordWhole
 pub mod RecordDefaults
 pub mod RecordAllowed

@@ -1,8 +1,8 @@
 -- A header without raw takes at most 20,400 bits: each part's bits, added up.
-use mathlib.Core.Path.{_≡_, refl, sym, ap, _∙_}
+use mathlib.Core.Path.{_≡_, refl, ap}
 use mathlib.Core.Bool.{Bool, true, false, not, _&&_, _||_, cond}
 use mathlib.Core.List.{List, [], _∷_}
-use Prim.Native.Nat.{ℕ, zero, suc, _+_, _-_, _*_, _≤_, _<_}
+use Prim.Native.Nat.{ℕ, zero, suc, _+_, _*_, _≤_}
 use native.Mathlib.Omega.{arith}
 use lib.ListN.{length, getD, set, replicate}
 use lib.Dec.{lit≤, leb, eqb}
@@ -14,7 +14,8 @@ use Rattle.bitstream.proofs.Laws.{value-next, value-lt}
 use Rattle.params.specs.declared.read.Reading.{Reading}
 use Rattle.params.specs.declared.read.Reading.the-variants.{Done, Lent, Short, Mode, Float, Raw}
 use Rattle.params.specs.Row.{Hand, on, short, mode, float, numberIs, number, numbers, listIs, bandList, bandLists, fixed, lists, allowed, entryIs, entry}
-use Rattle.params.specs.Header.{Outcome, gives, putRow, kindIs, after, kinds, flagIs, readHeader}
+use Rattle.promises.proofs.ByNumber.{read-done}
+use Rattle.params.specs.Header.{replyOf, Outcome, gives, kindIs, after, kinds, flagIs, readHeader}
 
 -- the next bit, or 0 after a refusal
 abbrev bitOf : Hand → ℕ
@@ -139,9 +140,9 @@ kinds-bits b zero kind o = omega arith
 kinds-bits b (suc n) kind o =
     omega (arith, kinds-bits b n (kind + 1) (after b kind (o .answer) (o .rows)), after-bits b kind (o .answer) (o .rows))
 
-pub longest-header : (b : List ℕ) (p q : ℕ) (rows : List ℕ) → readHeader b p 0 rows .answer ≡ Done q → q ≤ p + 20400
+pub longest-header : (b : List ℕ) (p q : ℕ) (rows : List ℕ) → replyOf (readHeader b p 0 rows .answer) ≡ 0 ∷ q ∷ [] → q ≤ p + 20400
 unfolding readHeader
-longest-header b p q rows e = omega (arith, ap nextOf e, go (eqb (length rows) 2176))
+longest-header b p q rows e = omega (arith, ap nextOf (read-done (readHeader b p 0 rows .answer) q e), go (eqb (length rows) 2176))
   where
     pick : (t : Bool) (k : ℕ) → k ≡ p + 1
         → nextOf (cond t (gives (Done k) (set (replicate 2176 0) 126 1)) (kinds b 17 0 (gives (Done k) rows)) .answer) ≤ p + 20400

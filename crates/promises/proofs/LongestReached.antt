@@ -1,17 +1,16 @@
 -- The bound of `longest-header` is reached: 17 entries with as many numbers as their kinds allow, all 0, take 20,400 bits with the flag.
 use mathlib.Core.Path.{_≡_, refl, sym, ap, _∙_, subst}
-use mathlib.Core.Bool.{Bool, true, false, not, _&&_, _||_, cond}
+use mathlib.Core.Bool.{Bool, true, false, _||_, cond}
 use mathlib.Core.List.{List, [], _∷_, _++_}
-use Prim.Native.Nat.{ℕ, zero, suc, _+_, _-_, _*_, _^_, _≤_, _<_}
+use Prim.Native.Nat.{ℕ, zero, suc, _+_, _*_, _^_, _<_}
 use native.Mathlib.Omega.{arith}
 use lib.ListN.{length, getD, replicate}
 use lib.Dec.{T, leb, eqb, lit≤}
 use lib.Pow.{areBytes}
 use Rattle.bitstream.proofs.Bytes.{bytesOf, bytesOf-bytes}
 use Rattle.params.specs.declared.read.Reading.the-variants.{Done, Raw}
-use Rattle.params.specs.Row.{Hand, on, allowed, fixed, entry}
-use Rattle.params.specs.Header.{Outcome, gives, putRow, kindIs, after, kinds, readHeader}
-use Rattle.params.proofs.Written.{Field, bits, span, Spells, Sized, numbersOf, Fine, rowOf, Bands, Start, Written, plain, one, two}
+use Rattle.params.specs.Header.{replyOf, Outcome, gives, putRow, kindIs, after, kinds, readHeader}
+use Rattle.params.proofs.Written.{Field, bits, span, Spells, Sized, numbersOf, Fine, rowOf, Bands, Written, one, two}
 use Rattle.promises.proofs.Shape.{spells-left, spells-right, span-append}
 use Rattle.params.proofs.SetLaws.{header-all}
 use Rattle.promises.proofs.ReadWritten.{entry-spelt}
@@ -95,9 +94,9 @@ pub longestBytes : List ℕ
 longestBytes = bytesOf 2550 (numberOf (bits 1 0 ∷ fieldsFrom (λ k. fieldsBy (most k)) 17 0))
 
 -- these 2,550 bytes are a header of 20,400 bits
-pub longest-reached : (rows : List ℕ) → length rows ≡ 2176 → T (areBytes longestBytes) × (readHeader longestBytes 0 0 rows .answer ≡ Done 20400)
+pub longest-reached : (rows : List ℕ) → length rows ≡ 2176 → T (areBytes longestBytes) × (replyOf (readHeader longestBytes 0 0 rows .answer) ≡ 0 ∷ 20400 ∷ [])
 unfolding longestBytes
 longest-reached rows l = (
   bytesOf-bytes 2550 (numberOf (bits 1 0 ∷ fieldsFrom (λ k. fieldsBy (most k)) 17 0)),
-  header-spelt longestBytes (λ k. rowBy (most k)) (λ k. fieldsBy (most k)) (λ k. written-by k (most k) refl) (λ k. not-raw (most k)) 2550 refl (lit≤ tt) refl (sized-from 17 0) rows l,
+  ap replyOf (header-spelt longestBytes (λ k. rowBy (most k)) (λ k. fieldsBy (most k)) (λ k. written-by k (most k) refl) (λ k. not-raw (most k)) 2550 refl (lit≤ tt) refl (sized-from 17 0) rows l),
 )

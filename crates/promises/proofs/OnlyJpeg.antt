@@ -8,7 +8,6 @@ use native.Mathlib.Nat.{le-trans, le-of-eq, le-of-lt, mul-comm, mul-assoc, mul-l
 use native.Mathlib.Omega.{arith}
 use borrow.Author.Tests.{eqb-true, leb-false}
 use lib.Dec.{leb, ltb, eqb, lit≤}
-use lib.ListN.{getD}
 use lib.Pow.{pow-pos, pow-mono}
 use lib.Ieee.{Float, nan, inf, fin, binary32, up, down, size, nearest, odd, units, round, div}
 use lib.Ieee.Exact.{HasValue}
@@ -21,11 +20,10 @@ use Rattle.bands.proofs.Units.{Units, div-units}
 use Rattle.bands.proofs.Position.{rescale}
 use Rattle.bands.proofs.Rounding.{largest, Near32, near32}
 use Rattle.matrix.proofs.Chain.{right}
-use Rattle.dequant.specs.declared.jpeg.Jpeg.{Jpeg}
-use Rattle.dequant.specs.declared.jpeg.Jpeg.the-variants.{Done, Lent, Row, None}
 use Rattle.dequant.specs.Jpeg.{jpegNumbers, roundsTo, jpegDenominator, jpegAnswer}
 use Rattle.dequant.proofs.JpegLaws.{done-says}
-use Rattle.dequant.proofs.Numbers.{Asked, p8}
+use Rattle.promises.proofs.ByNumber.{jpeg-done}
+use Rattle.promises.proofs.JpegNumbers.{Asked, p8}
 
 -- ---- what is below zero rounds to no number
 units-below : (q k n : ℕ) → roundsTo (units binary32 true q k) n ≡ false
@@ -171,15 +169,9 @@ only-1004 h w e = go (leb 32768 h) refl (half-exact h)
         (eq-zero-or-pos (sizeIs (h / 1024 % 32) (h % 1024)))
 
 -- ---- the call
-done-number : (r : Jpeg) → jpegNumbers r ≡ 0 ∷ [] → r ≡ Done
-done-number Done e = refl
-done-number Lent e = let z : _≡_ {A = ℕ} 1 0 = ap (λ (l : List ℕ). getD l 0 0) e in absurd (omega arith)
-done-number (Row k) e = let z : _≡_ {A = ℕ} 6 0 = ap (λ (l : List ℕ). getD l 0 0) e in absurd (omega arith)
-done-number None e = let z : _≡_ {A = ℕ} 11 0 = ap (λ (l : List ℕ). getD l 0 0) e in absurd (omega arith)
-
 -- rows and samples that pass LENT and ROW, row 0 raw with a denominator of 16 bits: there are JPEG values exactly if that is 1004
 pub jpeg-exactly : (rows : List ℕ) (n c d : ℕ) → d < 65536 → Asked rows n c d → (jpegNumbers (jpegAnswer rows n c) ≡ 0 ∷ []) ↔ (d ≡ 0x1004)
 jpeg-exactly rows n c d h a = (
-  λ e. only-1004 d h (sym (ap jpegDenominator (a .denominator)) ∙ done-says rows n c (done-number (jpegAnswer rows n c) e) .denominator),
+  λ e. only-1004 d h (sym (ap jpegDenominator (a .denominator)) ∙ done-says rows n c (jpeg-done (jpegAnswer rows n c) e) .denominator),
   λ e. p8 rows n c (subst (Asked rows n c) e a),
 )

@@ -1,6 +1,6 @@
 -- Not everything is refused: raw kinds of denominator 3c00, which is 1, with all samples 1 are accepted, each kind by itself and all 17 as a set. Assumes nothing.
 use mathlib.Core.Path.{_≡_, refl, sym, ap, _∙_}
-use mathlib.Core.Bool.{true, false}
+use mathlib.Core.Bool.{Bool, true, false, not, _&&_}
 use mathlib.Core.List.{List, [], _∷_, _++_}
 use Prim.Native.Nat.{ℕ, zero, suc, _+_, _*_, _≤_, _<_}
 use native.Mathlib.Nat.{le-of-eq, le-of-suc-le-suc, not-suc-le-zero, lt-of-lt-of-le}
@@ -11,21 +11,30 @@ use lib.Seq.{take-at, drop-at, getD-take, getD-drop}
 use lib.Ieee.{round, mul, ofInt, le, ne}
 use Rattle.transform.specs.Kinds.{placesOf, startOf, part}
 use Rattle.transform.proofs.Laws.{end-le}
-use Rattle.bitstream.specs.Half.{half}
+use Rattle.bitstream.specs.Half.{half, barred}
 use Rattle.params.specs.Allowed.{rowAt, rowAllowed, entryRow, flagFault}
 use Rattle.params.proofs.FaultLaws.{allowed-entry}
-use Rattle.matrix.specs.declared.Expanded.the-variants.{Done}
 use Rattle.matrix.specs.Raw.{weightOf, refused}
 use Rattle.matrix.specs.Expanded.{replyOf, kindAnswer, expandAnswer}
 use Rattle.dequant.specs.Set.{expandSet}
 use Rattle.params.proofs.RawLaws.{all-samples}
 use Rattle.dequant.proofs.Lent.{by-samples}
 use Rattle.dequant.proofs.Kindwise.{part-length}
+use Rattle.promises.proofs.RowsChecked.{rows-pass}
 use Rattle.promises.proofs.Accepts.{raw-accepts, alone, set-accepts}
+
+-- a raw row of a denominator
+abbrev pub rawRow : ℕ → List ℕ
+rawRow d = 7 ∷ 0 ∷ 0 ∷ d ∷ replicate 124 0
+
+-- it passes ROW for every kind, if reading lets the denominator pass
+pub raw-allowed : (k d : ℕ) → k < 17 → barred d ≡ false → rowAllowed k (rawRow d) ≡ true
+unfolding entryRow
+raw-allowed k d h e = sym (allowed-entry k (rawRow d) (le-of-suc-le-suc h) (ap (λ (b : Bool). (not b && true) && true) e))
 
 -- a raw row of denominator 1
 abbrev pub oneRow : List ℕ
-oneRow = 7 ∷ 0 ∷ 0 ∷ 0x3c00 ∷ replicate 124 0
+oneRow = rawRow 0x3c00
 
 -- n rows, one after the other, all the same
 abbrev pub many : ℕ → List ℕ → List ℕ
@@ -58,7 +67,7 @@ many-row (suc n) (suc k) row l h =
     next k = omega arith
 
 one-allowed : (k : ℕ) → k < 17 → rowAllowed k oneRow ≡ true
-one-allowed k h = sym (allowed-entry k oneRow (le-of-suc-le-suc h) (unfold entryRow in refl))
+one-allowed k h = raw-allowed k 0x3c00 h refl
 
 -- 1 times 1 is a weight that is not refused
 one-fine : refused (weightOf (half 0x3c00) (pos 1)) ≡ false
@@ -66,22 +75,23 @@ unfolding weightOf refused half round mul ofInt le ne
 one-fine = refl
 
 -- any samples that are all 1
-ones-accepted : (k : ℕ) (zs : List ℤ) → k < 17 → length zs ≡ placesOf k → ((i : ℕ) → i < placesOf k → getD zs i (pos 0) ≡ pos 1) → kindAnswer oneRow zs k ≡ Done
+ones-accepted : (k : ℕ) (zs : List ℤ) → k < 17 → length zs ≡ placesOf k → ((i : ℕ) → i < placesOf k → getD zs i (pos 0) ≡ pos 1) → replyOf (kindAnswer oneRow zs k) ≡ 0 ∷ []
 ones-accepted k zs h l f = raw-accepts k oneRow zs (one-allowed k h) refl l (λ i g. ap (λ (z : ℤ). refused (weightOf (half 0x3c00) z)) (f i g) ∙ one-fine)
 
 -- each kind by itself, lent its row, 3 x width x height samples of 1 and two outputs of that length, answers DONE
 pub ones-done : (k : ℕ) → k < 17 → replyOf (expandAnswer k oneRow (replicate (placesOf k) (pos 1)) (placesOf k) (placesOf k)) ≡ 0 ∷ []
 ones-done k h =
-    ap replyOf (alone k oneRow (replicate (placesOf k) (pos 1)) h refl (length-replicate (placesOf k) (pos 1)) (one-allowed k h)
-    ∙ ones-accepted k (replicate (placesOf k) (pos 1)) h (length-replicate (placesOf k) (pos 1)) (λ i g. getD-replicate (placesOf k) i (pos 1) (pos 0) g))
+    ap replyOf (alone k oneRow (replicate (placesOf k) (pos 1)) h refl (length-replicate (placesOf k) (pos 1)) (one-allowed k h))
+    ∙ ones-accepted k (replicate (placesOf k) (pos 1)) h (length-replicate (placesOf k) (pos 1)) (λ i g. getD-replicate (placesOf k) i (pos 1) (pos 0) g)
 
 -- ---- the set
 no-flag : flagFault (many 17 oneRow) ≡ false
 unfolding flagFault
 no-flag = refl
 
-part-at : (k i : ℕ) (zs : List ℤ) → length zs ≡ 394752 → ((i : ℕ) → i < 394752 → getD zs i (pos 0) ≡ pos 1) → i < placesOf k → getD (part k zs) i (pos 0) ≡ pos 1
-part-at k i zs l f h =
+-- a kind's samples, where all are the same
+pub part-at : (k i : ℕ) (z : ℤ) (zs : List ℤ) → ((i : ℕ) → i < 394752 → getD zs i (pos 0) ≡ z) → i < placesOf k → getD (part k zs) i (pos 0) ≡ z
+part-at k i z zs f h =
     getD-take (placesOf k) (drop (startOf k) zs) i (pos 0) h
     ∙ getD-drop (startOf k) zs i (pos 0)
     ∙ f (startOf k + i) (under (startOf k) (placesOf k) i h (end-le k))
@@ -89,17 +99,16 @@ part-at k i zs l f h =
     under : (a b i : ℕ) → i < b → a + b ≤ 394752 → a + i < 394752
     under a b i h g = omega arith
 
-set-of-ones : (zs : List ℤ) → length zs ≡ 394752 → ((i : ℕ) → i < 394752 → getD zs i (pos 0) ≡ pos 1) → expandSet (many 17 oneRow) zs 394752 394752 ≡ Done
+set-of-ones : (zs : List ℤ) → length zs ≡ 394752 → ((i : ℕ) → i < 394752 → getD zs i (pos 0) ≡ pos 1) → replyOf (expandSet (many 17 oneRow) zs 394752 394752) ≡ 0 ∷ []
 set-of-ones zs l f =
     set-accepts (many 17 oneRow) zs 394752 394752
     (sym (by-samples (many 17 oneRow) (length zs) 394752 394752 true (many-length 17 oneRow refl) refl refl (all-samples (many 17 oneRow) (length zs) l)))
-    no-flag
-    (λ k h. ap (rowAllowed k) (many-row 17 k oneRow refl h) ∙ one-allowed k h)
-    (λ k h. ap (λ (row : List ℕ). kindAnswer row (part k zs) k) (many-row 17 k oneRow refl h) ∙ ones-accepted k (part k zs) h (part-length k zs l) (λ i g. part-at k i zs l f g))
+    (rows-pass (many 17 oneRow) (many-length 17 oneRow refl) no-flag (λ k h. ap (rowAllowed k) (many-row 17 k oneRow refl h) ∙ one-allowed k h))
+    (λ k h. ap (λ (row : List ℕ). replyOf (kindAnswer row (part k zs) k)) (many-row 17 k oneRow refl h) ∙ ones-accepted k (part k zs) h (part-length k zs l) (λ i g. part-at k i (pos 1) zs f g))
 
-same-samples : (n : ℕ) → n ≡ 394752 → expandSet (many 17 oneRow) (replicate n (pos 1)) 394752 394752 ≡ Done
+same-samples : (n : ℕ) → n ≡ 394752 → replyOf (expandSet (many 17 oneRow) (replicate n (pos 1)) 394752 394752) ≡ 0 ∷ []
 same-samples n e = set-of-ones (replicate n (pos 1)) (length-replicate n (pos 1) ∙ e) (λ i h. getD-replicate n i (pos 1) (pos 0) (lt-of-lt-of-le h (le-of-eq (sym e))))
 
 -- all 17 as a set, lent 394,752 samples of 1 and two arenas of that length, answer DONE
 pub ones-set-done : replyOf (expandSet (many 17 oneRow) (replicate 394752 (pos 1)) 394752 394752) ≡ 0 ∷ []
-ones-set-done = ap replyOf (same-samples 394752 refl)
+ones-set-done = same-samples 394752 refl

@@ -2,7 +2,7 @@
 use mathlib.Core.Path.{_≡_, refl, sym, ap, _∙_, subst}
 use mathlib.Core.Bool.{Bool, true, false, cond}
 use mathlib.Core.List.{List, [], _∷_, _++_}
-use Prim.Native.Nat.{ℕ, zero, suc, _+_, _-_, _*_, _≤_, _<_}
+use Prim.Native.Nat.{ℕ, zero, suc, _+_, _-_, _*_, _≤_}
 use native.Mathlib.Omega.{arith}
 use lib.ListN.{length, set, replicate, length-append}
 use Rattle.bitstream.specs.Bits.{readBits}
@@ -10,9 +10,9 @@ use Rattle.bitstream.specs.declared.Bits.{Bits}
 use Rattle.bitstream.specs.declared.Bits.the-variants.{Value, Short}
 use Rattle.bitstream.proofs.Laws.{value-next}
 use Rattle.params.specs.Row.{Hand, on, short, mode, float, numbers, bandList, bandLists, fixed, lists, allowed, entryIs, entry}
-use Rattle.params.proofs.Written.{Field, bits, span, Spells, numbersOf, Fine, rowOf, Bands, Start, Written, plain, one, two}
+use Rattle.params.proofs.Written.{Field, bits, span, Spells, numbersOf, Written, plain, one, two}
 use Rattle.params.proofs.RowLaws.{shape-fits, entry-on}
-use Rattle.promises.proofs.Shape.{shaped, Found, numbers-found, numbers-spelt, FoundList, list-found, list-spelt, list-inner, spells-append, spells-left, spells-right, span-append, span-numbers}
+use Rattle.promises.proofs.Shape.{shaped, numbers-found, numbers-spelt, list-found, list-spelt, list-inner, spells-append, spells-left, spells-right, span-append, span-numbers}
 
 -- what a reading that is not refused has read
 pub record Read (b : List ℕ) (kind p q : ℕ) (row : List ℕ) : Type 0 where

@@ -1,10 +1,10 @@
 -- Fields that bits can spell, the bytes that spell them, and the row that a kind's entry is read into.
-use mathlib.Core.Path.{_≡_, refl, sym, ap, _∙_}
+use mathlib.Core.Path.{_≡_, sym, ap, _∙_}
 use mathlib.Core.List.{List, [], _∷_}
-use Prim.Native.Nat.{ℕ, zero, suc, _+_, _-_, _*_, _/_, _%_, _^_, _≤_, _<_}
+use Prim.Native.Nat.{ℕ, _+_, _*_, _/_, _%_, _^_, _≤_, _<_}
 use native.Mathlib.Omega.{arith}
 use lib.Pow.{shr-shr, high, low}
-use Rattle.bitstream.specs.Bits.{readBits, field}
+use Rattle.bitstream.specs.Bits.{field}
 use Rattle.bitstream.specs.declared.Bits.the-variants.{Value}
 use Rattle.bitstream.proofs.Laws.{read-in, value-lt, value-width}
 use Rattle.bitstream.proofs.Bytes.{bytesOf, length-bytesOf, field-at}

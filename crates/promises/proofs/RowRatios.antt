@@ -2,7 +2,7 @@
 use mathlib.Core.Path.{_≡_, refl, sym, ap, _∙_, subst}
 use mathlib.Core.Logic.{_⊎_, inl, inr, ⊎-elim}
 use mathlib.Core.Bool.{Bool, true, false, cond, true≢false}
-use mathlib.Core.List.{List}
+use mathlib.Core.List.{List, [], _∷_}
 use Prim.Native.Nat.{ℕ, zero, suc, _+_, _-_, _*_, _^_, _≤_, _<_}
 use native.Mathlib.Nat.{lt-irrefl, mul-pos, zero-mul, zero-lt-suc}
 use native.Mathlib.Omega.{arith}
@@ -33,8 +33,8 @@ use Rattle.bands.proofs.Accuracy.{accurate}
 use Rattle.bands.proofs.MultRange.{mult-banded, moderate}
 use Rattle.bands.proofs.Sound.{opened, first-band}
 use Rattle.bands.proofs.Formed.{Given, Own, ratioAt, isZero, ratio-formed, own-formed, formed-accurate}
-use Rattle.matrix.specs.declared.Expanded.the-variants.{Done}
-use Rattle.matrix.specs.Expanded.{isDone, bandAnswer}
+use Rattle.promises.proofs.ByNumber.{done-only}
+use Rattle.matrix.specs.Expanded.{replyOf, isDone, bandAnswer}
 use Rattle.matrix.specs.declared.numbers.Numbers.{Numbers}
 use Rattle.matrix.specs.Numbers.{readNumbers, numbersOf, numberOf, count, listOf}
 use Rattle.matrix.proofs.RowFacts.{facts, raw-numbers, row-shaped}
@@ -138,10 +138,10 @@ module _ (k : ℕ) (row : List ℕ) (ok : rowAllowed k row ≡ true) where
     row-accurate f g = formed-accurate (listNumber (numbersOf row k) l c) (count (numbersOf row k) l) (list-given k row ok l c channel (omega arith)) s i f h g
 
   -- ---- the same where the kind's answer is not BAND
-  band-sound : bandAnswer (numbersOf row k) k 3 ≡ Done → (l c : ℕ) → c < 3 → soundOf (listOf (numbersOf row k) l) (count (numbersOf row k) l) c ≡ count (numbersOf row k) l
+  band-sound : replyOf (bandAnswer (numbersOf row k) k 3) ≡ 0 ∷ [] → (l c : ℕ) → c < 3 → soundOf (listOf (numbersOf row k) l) (count (numbersOf row k) l) c ≡ count (numbersOf row k) l
   unfolding listOf
-  band-sound e zero c h = all-sound (numbersOf row k) k (bandAnswer (numbersOf row k) k 3) refl (ap isDone e) .each c h
-  band-sound e (suc l) c h = all-sound-2 (numbersOf row k) k (bandAnswer (numbersOf row k) k 3) refl (ap isDone e) .each c h
+  band-sound e zero c h = all-sound (numbersOf row k) k (bandAnswer (numbersOf row k) k 3) refl (ap isDone (done-only (bandAnswer (numbersOf row k) k 3) e)) .each c h
+  band-sound e (suc l) c h = all-sound-2 (numbersOf row k) k (bandAnswer (numbersOf row k) k 3) refl (ap isDone (done-only (bandAnswer (numbersOf row k) k 3) e)) .each c h
 
   few-bands : (l : ℕ) → count (numbersOf row k) l ≤ 16
   few-bands l = ⊎-elim raw plain (decide (getD row 0 0))
@@ -170,7 +170,7 @@ module _ (k : ℕ) (row : List ℕ) (ok : rowAllowed k row ≡ true) where
           subst (λ (n : Numbers). count n l ≤ 16) (sym (raw-numbers row k m))
           (few l (readNumbers row) (none (leb 1 (lists (getD row 0 0))) (getD row 1 0) (ap (λ (x : ℕ). leb 1 (lists x)) m) (f .first)) (none (leb 2 (lists (getD row 0 0))) (getD row 2 0) (ap (λ (x : ℕ). leb 2 (lists x)) m) (f .second)))
 
-  module _ (e : bandAnswer (numbersOf row k) k 3 ≡ Done) (l c : ℕ) (channel : c < 3) (i : ℕ) (h : i + 1 < count (numbersOf row k) l) where
+  module _ (e : replyOf (bandAnswer (numbersOf row k) k 3) ≡ 0 ∷ []) (l c : ℕ) (channel : c < 3) (i : ℕ) (h : i + 1 < count (numbersOf row k) l) where
     -- a row that passes ROW and BAND: every ratio of both lists and of every channel is normal and above zero
     pub ratio-normal : T (normal (ratioAt (listNumber (numbersOf row k) l c) i))
     ratio-normal = row-ratio l c channel (band-sound e l c channel) i h
@@ -180,7 +180,7 @@ module _ (k : ℕ) (row : List ℕ) (ok : rowAllowed k row ≡ true) where
     ratio-accurate = row-accurate l c channel (band-sound e l c channel) i h
 
   -- a row that passes ROW and BAND, a list of two bands or more of it: so is every weight of every grid that lists are laid over
-  pub weight-interpolated : bandAnswer (numbersOf row k) k 3 ≡ Done → (l c w h y x : ℕ) → c < 3 → gridded w h ≡ true → 2 ≤ count (numbersOf row k) l → y < h → x < w
+  pub weight-interpolated : replyOf (bandAnswer (numbersOf row k) k 3) ≡ 0 ∷ [] → (l c w h y x : ℕ) → c < 3 → gridded w h ≡ true → 2 ≤ count (numbersOf row k) l → y < h → x < w
       → Interpolated (listNumber (numbersOf row k) l c) (count (numbersOf row k) l) (positionOf (distanceOf x y (w - 1) (h - 1)) (count (numbersOf row k) l)) (bandWeight (bandAt (listNumber (numbersOf row k) l c)) (count (numbersOf row k) l) w h y x)
   weight-interpolated e l c w h y x channel g many hy hx =
       let s = grid-sides w h g in

@@ -1,12 +1,12 @@
 -- `entryRow` passes exactly the rows that a kind's entry is read into: what passes has fields that bits can spell, and what is read passes.
-use mathlib.Core.Path.{_≡_, refl, sym, ap, _∙_}
+use mathlib.Core.Path.{_≡_}
 use mathlib.Core.Bool.{true}
 use mathlib.Core.List.{List, [], _∷_, _++_}
-use Prim.Native.Nat.{ℕ, zero, suc, _+_, _-_, _*_, _^_, _≤_, _<_}
+use Prim.Native.Nat.{ℕ, _+_, _-_, _^_, _≤_, _<_}
 use native.Mathlib.Omega.{arith}
-use lib.ListN.{length, replicate, length-append}
+use lib.ListN.{length}
 use lib.Dec.{lit≤}
-use Rattle.params.proofs.Written.{Field, bits, span, Sized, numbersOf, rowOf, Bands, Start, Written, plain, one, two}
+use Rattle.params.proofs.Written.{Field, bits, span, Sized, numbersOf, Written, plain, one, two}
 use Rattle.params.specs.Allowed.{entryRow}
 use Rattle.params.proofs.RowLaws.{shape-fits}
 use Rattle.promises.proofs.Shape.{span-append, span-numbers}
@@ -23,7 +23,7 @@ pub small-left : (a x : List ℕ) → Small (a ++ x) → Small a
 small-left [] x s = tt
 small-left (v ∷ a) x s = (s .0, small-left a x (s .1))
 
-small-right : (a x : List ℕ) → Small (a ++ x) → Small x
+pub small-right : (a x : List ℕ) → Small (a ++ x) → Small x
 small-right [] x s = s
 small-right (v ∷ a) x s = small-right a x (s .1)
 

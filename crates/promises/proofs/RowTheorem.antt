@@ -3,30 +3,30 @@ use mathlib.Core.Path.{_≡_, refl, sym, ap, _∙_, subst}
 use mathlib.Core.Bool.{Bool, true, false, _&&_, _||_}
 use mathlib.Core.Logic.{_⊎_, inl, inr, ⊎-elim}
 use mathlib.Core.List.{List, [], _∷_, _++_}
-use Prim.Native.Nat.{ℕ, zero, suc, _+_, _-_, _*_, _/_, _^_, _≤_, _<_}
+use Prim.Native.Nat.{ℕ, zero, suc, _+_, _-_, _*_, _<_}
 use native.Mathlib.Omega.{arith}
 use lib.ListN.{length, getD, set, take, drop, replicate, length-replicate, getD-replicate, length-drop, take-append-drop}
 use lib.Seq.{getD-take, getD-drop, drop-cons, length-take-le}
 use lib.Dec.{T, eqb, ltb, lit≤}
 use lib.Pow.{areBytes}
-use borrow.Author.Tests.{eq-eqb, ne-eqb, eqb-true, eqb-false, lt-ltb, ltb-true}
+use borrow.Author.Tests.{eqb-true, eqb-false, ltb-true}
 use Rattle.bitstream.specs.Bits.{readBits, field}
 use Rattle.bitstream.specs.declared.Bits.{Bits}
 use Rattle.bitstream.specs.declared.Bits.the-variants as bits
 use Rattle.bitstream.proofs.Bytes.{bytesOf, bytesOf-bytes}
 use Rattle.params.specs.declared.read.Reading.{Reading}
-use Rattle.params.specs.declared.read.Reading.the-variants.{Done, Lent, Short, Mode, Float, Raw}
+use Rattle.params.specs.declared.read.Reading.the-variants.{Done, Short, Mode, Float}
 use Rattle.params.specs.Row.{Hand, on, short, mode, float, entry}
 use Rattle.params.specs.Header.{Outcome, gives, allDefault, kindIs, kinds, readHeader}
 use Rattle.params.specs.Allowed.{allZero, entryRow, flagRow, rowAllowed, rowAt}
-use Rattle.params.proofs.Written.{Field, span, Spells, Sized}
+use Rattle.params.proofs.Written.{Field, span, Spells}
 use Rattle.params.proofs.Written as written
 use Rattle.params.proofs.SetLaws.{kinds-step, kinds-stays, header-resume, header-short, header-default, header-all}
 use Rattle.promises.proofs.ReadWritten.{entry-spelt}
 use Rattle.promises.proofs.Readable.{numberOf, spelt}
 use Rattle.promises.proofs.RowRule.{Small, ok-fields, entry-ok}
-use Rattle.params.proofs.AllowedLaws.{and-true, and-both, zeros-of}
-use Rattle.params.proofs.FaultLaws.{allowed-entry, allowed-flag}
+use Rattle.params.proofs.AllowedLaws.{and-true, zeros-of}
+use Rattle.params.proofs.FaultLaws.{allowed-entry}
 use Rattle.promises.proofs.KindLaws.{row-read}
 
 -- Some bytes, read at some bit from this kind on, write this row, whatever the 2,176 numbers were before.

@@ -1,7 +1,7 @@
 -- The steps of a cut position's fraction are the n of its fraction n / 2 ^ 32. Assumes nothing.
 use mathlib.Core.Path.{_≡_, _∙_}
 use mathlib.Core.Bool.{false}
-use Prim.Native.Nat.{ℕ, _+_, _*_, _^_, _≤_, _<_}
+use Prim.Native.Nat.{ℕ, _*_, _^_, _<_}
 use native.Mathlib.Nat.{mul-lt-mul-of-pos-right, lt-of-lt-of-le, mul-div-cancel}
 use lib.Dec.{T, lit≤}
 use lib.Pow.{pow-pos}

@@ -3,7 +3,7 @@ use mathlib.Core.Path.{_≡_, refl, sym, ap, _∙_, subst}
 use mathlib.Core.Bool.{Bool, true, false, cond, not, _&&_, _||_}
 use mathlib.Core.List.{List, [], _∷_}
 use Prim.Native.Nat.{ℕ, zero, suc, _+_, _*_, _/_, _%_, _^_, _≤_, _<_}
-use native.Mathlib.Nat.{mod-lt, div-lt-iff-lt-mul, le-refl, le-trans, le-of-eq, le-suc, lt-suc-self, lt-of-lt-of-le, lt-of-le-of-lt, not-suc-le-zero, mul-one, one-mul, mul-comm, mul-right-comm, mul-pos, mul-le-mul-right, mul-le-mul-left, le-of-mul-le-mul-right}
+use native.Mathlib.Nat.{mod-lt, div-lt-iff-lt-mul, le-refl, le-trans, le-of-eq, le-suc, lt-of-lt-of-le, lt-of-le-of-lt, not-suc-le-zero, mul-one, one-mul, mul-comm, mul-right-comm, mul-pos, mul-le-mul-right, mul-le-mul-left, le-of-mul-le-mul-right}
 use native.Mathlib.Omega.{arith}
 use borrow.Author.Tests.{le-ltb, ne-eqb, eq-eqb}
 use lib.Dec.{ltb, eqb, leb, leb→le, lit<, lit≤}
@@ -14,7 +14,7 @@ use lib.Ieee.{Float, nan, inf, fin, binary32, up, down, size, div, lt, le, eq, n
 use lib.Ieee.Fits.{down-pos}
 use Rattle.transform.specs.Kinds.{widthOf, heightOf, areaOf, placesOf}
 use Rattle.transform.proofs.Laws.{at, width-le, height-le}
-use Rattle.bands.specs.Bands.{nought, one, atOf, bandAt, barred, sound}
+use Rattle.bands.specs.Bands.{nought, one, atOf, bandAt, barred}
 use Rattle.bands.specs.Freqs.{interpolated, freqWeight}
 use Rattle.bands.proofs.Sound.{sound-every}
 use Rattle.bands.proofs.Units.{Units, div-units}
@@ -24,7 +24,7 @@ use Rattle.matrix.specs.declared.Expanded.{Expanded}
 use Rattle.matrix.specs.declared.Expanded.the-variants.{Done, Band}
 use Rattle.matrix.specs.Raw.{refused, weightOf}
 use Rattle.matrix.specs.Numbers.{numbersOf, numberOf, count}
-use Rattle.matrix.specs.Expanded.{orElse, listAnswer, bandAnswer, kindAnswer}
+use Rattle.matrix.specs.Expanded.{replyOf, orElse, listAnswer, bandAnswer, kindAnswer}
 use Rattle.matrix.specs.Views.{Shaped}
 use Rattle.matrix.specs.Weight.{weightAt, gridWeight, mode1, mode2, mode3, mode4, mode5, corner, from, layer, rule, weightIn}
 use Rattle.matrix.proofs.RowFacts.{not-raw}
@@ -315,10 +315,10 @@ place-in k p h g =
     (div-lt-iff-lt-mul A .1 g, div-lt-iff-lt-mul W .1 (lt-of-lt-of-le (mod-lt p A) (le-of-eq (mul-comm (widthOf k) (heightOf k)))), mod-lt (p % (widthOf k * heightOf k)) W)
 
 -- a row that passes ROW, is not raw and whose numbers are tame is accepted, whatever samples are lent
-pub tame-accepts : (k : ℕ) (row : List ℕ) (zs : List ℤ) → Shaped (numbersOf row k) k → Tame (numbersOf row k) → kindAnswer row zs k ≡ Done
+pub tame-accepts : (k : ℕ) (row : List ℕ) (zs : List ℤ) → Shaped (numbersOf row k) k → Tame (numbersOf row k) → replyOf (kindAnswer row zs k) ≡ 0 ∷ []
 unfolding weightAt
 tame-accepts k row zs s t =
-    kind-accepts k row zs (tame-bands (numbersOf row k) k t 3 (le-refl 3))
+    kind-accepts k row zs (ap replyOf (tame-bands (numbersOf row k) k t 3 (le-refl 3)))
     (λ p h. let i = place-in k p (s .named) h in
     ap refused (weight-plain (numbersOf row k) zs k (p / areaOf k) (p % areaOf k) (not-raw (numbersOf row k) k s))
     ∙ inverse-fine (rule (numbersOf row k) k (p / areaOf k) (p % areaOf k / widthOf k) (p % areaOf k % widthOf k) (numbersOf row k .mode))

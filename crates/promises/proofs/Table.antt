@@ -1,5 +1,5 @@
 -- Document 01's numbers to hold, P1 to P13, as one table under a single theorem on the definitions. Assumes nothing.
-use mathlib.Core.Path.{_≡_, refl, ap, _∙_}
+use mathlib.Core.Path.{_≡_, ap, _∙_}
 use mathlib.Core.Bool.{true, false}
 use mathlib.Core.List.{List, [], _∷_}
 use Prim.Native.Nat.{ℕ}
@@ -17,11 +17,11 @@ use Rattle.matrix.specs.Mirror.{mirror}
 use Rattle.matrix.specs.Weight.{weightsOf}
 use Rattle.matrix.specs.Expanded.{expandAnswer}
 use Rattle.matrix.specs.Expanded.{replyOf as expandedReply}
-use Rattle.matrix.proofs.NumbersToHold as weights
+use Rattle.promises.proofs.NumbersToHold as weights
 use Rattle.dequant.specs.Jpeg.{jpegNumbers, jpegAnswer}
 use Rattle.bands.proofs.Numbers.{P7, p7}
-use Rattle.dequant.proofs.Numbers.{Asked, p8, p9}
-use Rattle.dequant.proofs.FirstWeight.{Raw, first-weight, first-refused}
+use Rattle.promises.proofs.JpegNumbers.{Asked, p8, p9}
+use Rattle.promises.proofs.FirstWeight.{Raw, first-weight, first-refused}
 
 -- whatever the 2,176 numbers of the rows were before (P1 to P5), whatever rows of denominator 1004, 1003 or 1005 and n samples pass LENT and ROW for
 -- channel c (P8, P9), whatever raw row of kind 0 of the denominator named and 192 samples of which the first is the one named (P10, P11), and whatever weights kind 6 has (P13)

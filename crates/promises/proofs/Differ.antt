@@ -1,7 +1,7 @@
 -- Two expanded sets that share a raw kind and its denominator: where a sample of the kind differs, the straight weights differ at that place and the
 -- transposed ones at its mirror place, in the arenas and in what lookup shows. Assumes nothing.
-use mathlib.Core.Path.{_≡_, refl, sym, ap, _∙_, subst}
-use mathlib.Core.List.{List}
+use mathlib.Core.Path.{_≡_, sym, _∙_, subst}
+use mathlib.Core.List.{List, [], _∷_}
 use Prim.Native.Nat.{ℕ, _+_, _*_, _^_, _≤_, _<_}
 use lib.IntN.{ℤ, pos, natAbs}
 use lib.ListN.{length, getD, drop}
@@ -11,19 +11,19 @@ use Rattle.transform.specs.Kinds.{widthOf, heightOf, placesOf, startOf, part}
 use Rattle.params.specs.Allowed.{rowAt, modeAt}
 use Rattle.matrix.specs.Mirror.{straightPlace, transposedPlace}
 use Rattle.matrix.specs.Weight.{weightAt}
-use Rattle.matrix.specs.declared.Expanded.the-variants.{Done}
-use Rattle.matrix.proofs.Places.{straight-in, weights-at}
-use Rattle.matrix.proofs.RawPlaces.{Raw, straight-differs, in-range}
+use Rattle.matrix.specs.Expanded.{replyOf}
+use Rattle.promises.proofs.Places.{straight-in, weights-at}
+use Rattle.promises.proofs.RawPlaces.{Raw, straight-differs, in-range}
 use Rattle.dequant.specs.declared.shown.Order.the-variants.{Unnamed, Straight, Transposed}
 use Rattle.dequant.specs.Set.{straightArena, transposedArena, expandSet}
 use Rattle.dequant.specs.Shown.{shown}
 use Rattle.dequant.proofs.Kindwise.{mode-at}
-use Rattle.dequant.proofs.Expanded.{kind-done}
-use Rattle.dequant.proofs.Shows.{in-straight, in-transposed, shown-straight, shown-unnamed, shown-transposed}
+use Rattle.promises.proofs.AcceptedSet.{kind-done}
+use Rattle.promises.proofs.Shows.{in-straight, in-transposed, shown-straight, shown-unnamed, shown-transposed}
 
 -- a set that is expanded, with a raw kind whose samples all lie between -65,535 and 65,535
 pub record RawSet (k : ℕ) (rows : List ℕ) (zs : List ℤ) (s t : List Float) : Type 0 where
-  pub expanded : expandSet rows zs (length s) (length t) ≡ Done
+  pub expanded : replyOf (expandSet rows zs (length s) (length t)) ≡ 0 ∷ []
   pub raw : modeAt rows k ≡ 7
   pub small : (p : ℕ) → p < placesOf k → natAbs (getD zs (startOf k + p) (pos 0)) ≤ 65535
 

@@ -2,7 +2,7 @@
 -- at its place, straight and transposed, and the larger magnitude has the strictly larger weight. Document 01's range, -65,535 to 65,535, lies within. Assumes nothing.
 use mathlib.Core.Path.{_≡_, sym, ap, _∙_}
 use mathlib.Core.Bool.{false}
-use mathlib.Core.List.{List}
+use mathlib.Core.List.{List, [], _∷_}
 use Prim.Native.Nat.{ℕ, _+_, _*_, _^_, _≤_, _<_}
 use native.Mathlib.Nat.{lt-of-le-of-lt}
 use lib.Dec.{T, lit<}
@@ -11,19 +11,18 @@ use lib.ListN.{getD}
 use lib.Ieee.{Float, nan, lt}
 use Rattle.transform.specs.Kinds.{widthOf, heightOf}
 use Rattle.bitstream.specs.Half.{half}
 use Rattle.matrix.specs.Mirror.{mirror, straightPlace, transposedPlace}
 use Rattle.matrix.specs.Raw.{weightOf, refused}
 use Rattle.matrix.specs.Weight.{weightsOf}
-use Rattle.matrix.specs.declared.Expanded.the-variants.{Done}
-use Rattle.matrix.specs.Expanded.{expandAnswer}
-use Rattle.matrix.proofs.Distinct.{half-coarse, larger, distinct}
+use Rattle.matrix.specs.Expanded.{replyOf, expandAnswer}
+use Rattle.promises.proofs.Distinct.{half-coarse, larger, distinct}
 use Rattle.matrix.proofs.Said.{raw-at}
-use Rattle.matrix.proofs.Places.{weights-at, mirror-at, not-refused}
+use Rattle.promises.proofs.Places.{weights-at, mirror-at, not-refused}
 
 -- a raw kind that is expanded, and a place of it
 pub record Raw (k : ℕ) (row : List ℕ) (zs : List ℤ) (s t : ℕ) : Type 0 where
   pub raw : getD row 0 0 ≡ 7
-  pub done : expandAnswer k row zs s t ≡ Done
+  pub done : replyOf (expandAnswer k row zs s t) ≡ 0 ∷ []
 
 module _ (k c y x : ℕ) (hc : c < 3) (hy : y < heightOf k) (hx : x < widthOf k) where
   abbrev sampleAt : List ℤ → ℤ
@@ -32,10 +31,6 @@ module _ (k c y x : ℕ) (hc : c < 3) (hy : y < heightOf k) (hx : x < widthOf k)
   pub raw-straight : (row : List ℕ) (zs : List ℤ) → getD row 0 0 ≡ 7
       → getD (weightsOf row zs k) (straightPlace k c y x) nan ≡ weightOf (half (getD row 3 0)) (sampleAt zs)
   raw-straight row zs e = weights-at k c y x hc hy hx row zs ∙ raw-at row zs k c (y * widthOf k + x) e
-
-  pub raw-transposed : (row : List ℕ) (zs : List ℤ) → getD row 0 0 ≡ 7
-      → getD (mirror k (weightsOf row zs k)) (transposedPlace k c y x) nan ≡ weightOf (half (getD row 3 0)) (sampleAt zs)
-  raw-transposed row zs e = mirror-at k c y x hc hy hx (weightsOf row zs k) ∙ raw-straight row zs e
 
   raw-accepted : (row : List ℕ) (zs : List ℤ) (s t : ℕ) → Raw k row zs s t → refused (weightOf (half (getD row 3 0)) (sampleAt zs)) ≡ false
   raw-accepted row zs s t r = sym (ap refused (raw-straight row zs (r .raw))) ∙ not-refused k row zs s t (r .done) c y x hc hy hx

@@ -1,19 +1,18 @@
 -- A raw row of kind 0 by its denominator and its first sample: the weight at place 0, and WEIGHT where that is refused, whatever the further 191 samples are. Assumes nothing.
 use mathlib.Core.Path.{_≡_, refl, sym, ap, _∙_}
-use mathlib.Core.Bool.{Bool, true, false, cond, not, _&&_}
+use mathlib.Core.Bool.{Bool, true, false, cond}
 use mathlib.Core.List.{List, [], _∷_, map}
 use Prim.Native.Nat.{ℕ, suc, _/_, _%_}
 use native.Mathlib.Nat.{zero-lt-suc}
 use native.Mathlib.Omega.{arith}
 use borrow.Author.Tests.{lt-ltb}
-use lib.Dec.{ltb, lit≤}
+use lib.Dec.{ltb, lit≤, lit<}
 use lib.IntN.{ℤ, pos}
-use lib.ListN.{length, getD, replicate}
+use lib.ListN.{length, getD}
 use lib.Ieee.{Float, nan}
 use Rattle.transform.specs.Kinds.{areaOf, placesOf}
 use Rattle.bitstream.specs.Half.{half, barred}
-use Rattle.params.specs.Allowed.{entryRow, rowAllowed}
-use Rattle.params.proofs.FaultLaws.{allowed-entry}
+use Rattle.params.specs.Allowed.{rowAllowed}
 use Rattle.matrix.specs.declared.Expanded.the-variants.{Done, Weight}
 use Rattle.transform.proofs.FirstLaws.{before-none}
 use Rattle.matrix.specs.Mirror.{passing}
@@ -24,6 +23,7 @@ use Rattle.matrix.specs.Expanded.{replyOf, weightAnswer, expandAnswer}
 use Rattle.matrix.proofs.Lending.{all-samples, by-samples}
 use Rattle.matrix.proofs.RowFacts.{facts}
 use Rattle.matrix.proofs.Said.{says-kind, raw-answer, raw-meaning}
+use Rattle.promises.proofs.RawOnes.{rawRow, raw-allowed}
 
 -- a raw row of kind 0 that passes ROW, with denominator d, and 192 samples of which the first is z
 pub record Raw (row : List ℕ) (zs : List ℤ) (d : ℕ) (z : ℤ) : Type 0 where
@@ -70,11 +70,10 @@ module _ (row : List ℕ) (zs : List ℤ) (d : ℕ) (z : ℤ) (r : Raw row zs d 
       go (y ∷ zs) l f = ap replyOf (stops (weightOf (half d) y) (map (weightOf (half d)) zs) (ap (λ (x : ℤ). refused (weightOf (half d) x)) f ∙ e))
 
 -- there are such rows: for every denominator that reading lets pass, every first sample and every further 191
-pub raw-there : (d : ℕ) (z : ℤ) (zs : List ℤ) → barred d ≡ false → length zs ≡ 191 → Raw (7 ∷ 0 ∷ 0 ∷ d ∷ replicate 124 0) (z ∷ zs) d z
-unfolding entryRow
+pub raw-there : (d : ℕ) (z : ℤ) (zs : List ℤ) → barred d ≡ false → length zs ≡ 191 → Raw (rawRow d) (z ∷ zs) d z
 raw-there d z zs e l = record {
   slots = refl;
-  fine = sym (allowed-entry 0 (7 ∷ 0 ∷ 0 ∷ d ∷ replicate 124 0) (lit≤ tt) (ap (λ (b : Bool). (not b && true) && true) e));
+  fine = raw-allowed 0 d (lit< tt) e;
   raw = refl;
   denominator = refl;
   samples = ap suc l;

@@ -2,15 +2,14 @@
 use mathlib.Core.Path.{_≡_, refl, sym, ap, _∙_}
 use mathlib.Core.Bool.{Bool, true, false, cond}
 use mathlib.Core.List.{List, [], _∷_}
-use Prim.Native.Nat.{ℕ, _*_, _+_, _<_}
-use lib.ListN.{length, getD}
+use Prim.Native.Nat.{ℕ}
+use lib.ListN.{getD}
 use lib.Ieee.{round, div}
 use Rattle.bitstream.specs.Half.{half}
 use Rattle.params.specs.Allowed.{rowAt, modeAt, rowAllowed}
-use Rattle.dequant.specs.declared.jpeg.Jpeg.{Jpeg}
-use Rattle.dequant.specs.declared.jpeg.Jpeg.the-variants.{Done, Lent, Row, None}
+use Rattle.dequant.specs.declared.jpeg.Jpeg.the-variants.{Done, None}
 use Rattle.dequant.specs.Jpeg.{jpegNumbers, roundsTo, jpegDenominator, jpegLent, jpegAnswer}
 use Rattle.dequant.proofs.JpegLaws.{says-raw}
 
 is-1004 : jpegDenominator 0x1004 ≡ true
 unfolding jpegDenominator half round div roundsTo

@@ -1,0 +1,43 @@
+-- An answer by document 01's number of its reply: DONE names one case of each enum. Assumes nothing.
+use mathlib.Core.Path.{_≡_, refl, ap}
+use mathlib.Core.List.{List, [], _∷_}
+use Prim.Native.Nat.{ℕ, suc}
+use native.Mathlib.Omega.{arith}
+use lib.ListN.{getD}
+use Rattle.params.specs.declared.read.Reading.{Reading}
+use Rattle.params.specs.declared.read.Reading.the-variants as reading
+use Rattle.params.specs.Header.{replyOf as readReply}
+use Rattle.matrix.specs.declared.Expanded.{Expanded}
+use Rattle.matrix.specs.declared.Expanded.the-variants.{Done, Lent, Row, Band, Weight}
+use Rattle.matrix.specs.Expanded.{replyOf}
+use Rattle.dequant.specs.declared.jpeg.Jpeg.{Jpeg}
+use Rattle.dequant.specs.declared.jpeg.Jpeg.the-variants as jpeg
+use Rattle.dequant.specs.Jpeg.{jpegNumbers}
+
+-- another number is not DONE's
+pub other : (n : ℕ) (l m : List ℕ) → suc n ∷ l ≡ 0 ∷ m → ⊥
+other n l m e = let z : suc n ≡ 0 = ap (λ (l : List ℕ). getD l 0 0) e in omega arith
+
+-- of expanding
+pub done-only : (a : Expanded) → replyOf a ≡ 0 ∷ [] → a ≡ Done
+done-only Done e = refl
+done-only Lent e = absurd (other 0 [] [] e)
+done-only (Row k) e = absurd (other 5 (k ∷ []) [] e)
+done-only (Band k c i) e = absurd (other 6 (k ∷ c ∷ i ∷ []) [] e)
+done-only (Weight k c p) e = absurd (other 7 (k ∷ c ∷ p ∷ []) [] e)
+
+-- of a call for JPEG values
+pub jpeg-done : (r : Jpeg) → jpegNumbers r ≡ 0 ∷ [] → r ≡ jpeg.Done
+jpeg-done jpeg.Done e = refl
+jpeg-done jpeg.Lent e = absurd (other 0 [] [] e)
+jpeg-done (jpeg.Row k) e = absurd (other 5 (k ∷ []) [] e)
+jpeg-done jpeg.None e = absurd (other 10 [] [] e)
+
+-- of reading, with the next bit
+pub read-done : (r : Reading) (q : ℕ) → readReply r ≡ 0 ∷ q ∷ [] → r ≡ reading.Done q
+read-done (reading.Done p) q e = ap (λ (l : List ℕ). reading.Done (getD l 1 0)) e
+read-done reading.Lent q e = absurd (other 0 [] (q ∷ []) e)
+read-done (reading.Short k p) q e = absurd (other 1 (k ∷ p ∷ []) (q ∷ []) e)
+read-done (reading.Mode k p) q e = absurd (other 2 (k ∷ p ∷ []) (q ∷ []) e)
+read-done (reading.Float k p) q e = absurd (other 3 (k ∷ p ∷ []) (q ∷ []) e)
+read-done (reading.Raw k p) q e = absurd (other 4 (k ∷ p ∷ []) (q ∷ []) e)

@@ -1,0 +1,142 @@
+-- The ROW check of a set by document 01's replies, each exactly when: LENT, DONE, and ROW with the first kind at fault. Assumes nothing.
+use mathlib.Core.Path.{_≡_, refl, sym, ap, _∙_, subst}
+use mathlib.Core.Logic.{_↔_, _⊎_, inl, inr, ⊎-elim}
+use mathlib.Core.Bool.{Bool, true, false, cond, _&&_, true≢false}
+use mathlib.Core.List.{List, [], _∷_}
+use Prim.Native.Nat.{ℕ, zero, suc, _*_, _≤_, _<_}
+use native.Mathlib.Nat.{le-of-eq, eq-or-lt-of-le, le-of-suc-le-suc, not-suc-le-zero, lt-irrefl, lt-of-lt-of-le}
+use native.Mathlib.Omega.{arith}
+use borrow.Author.Tests.{eqb-true, eqb-false, ltb-true, ltb-false}
+use lib.Dec.{ltb, eqb}
+use lib.ListN.{length, getD, take, drop, take-append-drop}
+use Rattle.transform.specs.First.{before}
+use Rattle.transform.proofs.FirstLaws.{before-stop, before-every}
+use Rattle.params.specs.declared.rows.RowCheck.{RowCheck}
+use Rattle.params.specs.declared.rows.RowCheck.the-variants.{Done, Lent, Row}
+use Rattle.params.specs.Allowed.{rowAllowed, rowAt, flagFault, rowFault, checkRows, checkReply}
+use Rattle.params.proofs.FaultLaws.{check-lent, check-row, check-done}
+use Rattle.dequant.proofs.Lent.{rows-fine}
+use Rattle.promises.proofs.ByNumber.{other}
+use Rattle.promises.proofs.RowRule.{Small, small-left, small-right}
+use Rattle.promises.proofs.RowTheorem.{Writes, allowed-writes, writes-allowed}
+
+-- ---- by the first kind at fault
+module _ (rows : List ℕ) where
+  -- which of the three, by the two tests
+  abbrev check : Bool → Bool → RowCheck
+  check long fault = cond long (cond fault (Row (rowFault rows)) Done) Lent
+
+  pub done-fault : checkReply (checkRows rows) ≡ 0 ∷ [] → (length rows ≡ 2176) × (17 ≤ rowFault rows)
+  unfolding checkRows
+  done-fault = go (eqb (length rows) 2176) (ltb (rowFault rows) 17) refl refl
+    where
+      go : (a b : Bool) → eqb (length rows) 2176 ≡ a → ltb (rowFault rows) 17 ≡ b → checkReply (check a b) ≡ 0 ∷ [] → (length rows ≡ 2176) × (17 ≤ rowFault rows)
+      go true true p q e = absurd (other 5 (rowFault rows ∷ []) [] e)
+      go true false p q e = (eqb-true (length rows) 2176 p, ltb-false (rowFault rows) 17 q)
+      go false b p q e = absurd (other 0 [] [] e)
+
+  -- DONE where the flag is not at fault and each row passes
+  pub rows-pass : length rows ≡ 2176 → flagFault rows ≡ false → ((k : ℕ) → k < 17 → rowAllowed k (rowAt rows k) ≡ true) → checkReply (checkRows rows) ≡ 0 ∷ []
+  unfolding rowFault
+  rows-pass l e f =
+      ap checkReply (sym (check-done rows l
+      (le-of-eq (sym (ap (λ (b : Bool). cond b 0 (before (λ kind. rowAllowed kind (rowAt rows kind)) 17)) e ∙ before-every (λ kind. rowAllowed kind (rowAt rows kind)) 17 f)))))
+
+  row-fault : (k : ℕ) → checkReply (checkRows rows) ≡ 6 ∷ k ∷ [] → (rowFault rows ≡ k) × (k < 17)
+  unfolding checkRows
+  row-fault k = go (eqb (length rows) 2176) (ltb (rowFault rows) 17) refl
+    where
+      go : (a b : Bool) → ltb (rowFault rows) 17 ≡ b → checkReply (check a b) ≡ 6 ∷ k ∷ [] → (rowFault rows ≡ k) × (k < 17)
+      go true true q e = let z : rowFault rows ≡ k = ap (λ (l : List ℕ). getD l 1 0) e in (z, subst (λ (n : ℕ). n < 17) z (ltb-true (rowFault rows) 17 q))
+      go true false q e = absurd (other 5 (k ∷ []) [] (sym e))
+      go false b q e = let z : _≡_ {A = ℕ} 1 6 = ap (λ (l : List ℕ). getD l 0 0) e in absurd (omega arith)
+
+  -- LENT exactly where the rows are not 2,176 numbers
+  pub checked-lent : (checkReply (checkRows rows) ≡ 1 ∷ []) ↔ (length rows ≡ 2176 → ⊥)
+  checked-lent = (λ e l. go e (ltb (rowFault rows) 17) refl l, λ h. ap checkReply (sym (check-lent rows h)))
+    where
+      go : checkReply (checkRows rows) ≡ 1 ∷ [] → (b : Bool) → ltb (rowFault rows) 17 ≡ b → length rows ≡ 2176 → ⊥
+      go e true q l = let z : _≡_ {A = ℕ} 6 1 = ap (λ (l : List ℕ). getD l 0 0) (ap checkReply (check-row rows l (ltb-true (rowFault rows) 17 q)) ∙ e) in omega arith
+      go e false q l = let z : _≡_ {A = ℕ} 0 1 = ap (λ (l : List ℕ). getD l 0 0) (ap checkReply (check-done rows l (ltb-false (rowFault rows) 17 q)) ∙ e) in omega arith
+
+-- ---- where a test first fails
+passed-before : (ok : ℕ → Bool) (n j : ℕ) → j < before ok n → ok j ≡ true
+unfolding before
+passed-before ok zero j h = absurd (not-suc-le-zero h)
+passed-before ok (suc n) j h = go (passed-before ok n j) (eqb (before ok n) n) (ok n) refl refl h
+  where
+    go : (j < before ok n → ok j ≡ true) → (a b : Bool) → eqb (before ok n) n ≡ a → ok n ≡ b → j < cond (a && b) (suc n) (before ok n) → ok j ≡ true
+    go r true true p q l = ⊎-elim (λ e. ap ok e ∙ q) (λ i. r (lt-of-lt-of-le i (le-of-eq (sym (eqb-true (before ok n) n p))))) (eq-or-lt-of-le (le-of-suc-le-suc l))
+    go r true false p q l = r l
+    go r false b p q l = r l
+
+fails-at : (ok : ℕ → Bool) (n : ℕ) → before ok n < n → ok (before ok n) ≡ false
+unfolding before
+fails-at ok zero h = absurd (not-suc-le-zero h)
+fails-at ok (suc n) h = go (fails-at ok n) (eqb (before ok n) n) (ok n) refl refl h
+  where
+    go : (before ok n < n → ok (before ok n) ≡ false) → (a b : Bool) → eqb (before ok n) n ≡ a → ok n ≡ b → cond (a && b) (suc n) (before ok n) < suc n → ok (cond (a && b) (suc n) (before ok n)) ≡ false
+    go r true true p q l = absurd (lt-irrefl (suc n) l)
+    go r true false p q l = ap ok (eqb-true (before ok n) n p) ∙ q
+    go r false b p q l = ⊎-elim (λ e. absurd (eqb-false (before ok n) n p e)) r (eq-or-lt-of-le (le-of-suc-le-suc l))
+
+-- ---- the ROW theorem of a set
+small-row : (rows : List ℕ) (k : ℕ) → Small rows → Small (rowAt rows k)
+small-row rows k s =
+    let behind : Small (drop (k * 128) rows) = small-right (take (k * 128) rows) (drop (k * 128) rows) (subst Small (sym (take-append-drop (k * 128) rows)) s) in
+    small-left (take 128 (drop (k * 128) rows)) (drop 128 (drop (k * 128) rows)) (subst Small (sym (take-append-drop 128 (drop (k * 128) rows))) behind)
+
+-- kind k is the first at fault, as document 01 says it: 0 where slot 126 of row 0 is 1 while some mode isn't 0; else the first whose row no reading writes
+pub record Fault (rows : List ℕ) (k : ℕ) : Type 0 where
+  pub kind : k < 17
+  pub why : ((flagFault rows ≡ true) × (k ≡ 0)) ⊎ ((flagFault rows ≡ false) × (Writes k (rowAt rows k) → ⊥) × ((j : ℕ) → j < k → Writes j (rowAt rows j)))
+
+module _ (rows : List ℕ) (small : Small rows) where
+  ok : ℕ → Bool
+  ok kind = rowAllowed kind (rowAt rows kind)
+
+  by-flag : (b : Bool) → flagFault rows ≡ b → rowFault rows ≡ cond b 0 (before ok 17)
+  unfolding rowFault ok
+  by-flag b e = ap (λ (b : Bool). cond b 0 (before (λ kind. rowAllowed kind (rowAt rows kind)) 17)) e
+
+  writes : (k : ℕ) → ok k ≡ true → Writes k (rowAt rows k)
+  unfolding ok
+  writes k e = allowed-writes k (rowAt rows k) (small-row rows k small) e
+
+  passes : (k : ℕ) → k < 17 → Writes k (rowAt rows k) → ok k ≡ true
+  unfolding ok
+  passes k h w = writes-allowed k h (rowAt rows k) w
+
+  -- DONE exactly where the rows are 2,176 numbers, each row is one that some reading writes, and slot 126 is not at fault
+  pub checked-done : (checkReply (checkRows rows) ≡ 0 ∷ []) ↔ ((length rows ≡ 2176) × (flagFault rows ≡ false) × ((k : ℕ) → k < 17 → Writes k (rowAt rows k)))
+  checked-done = (λ e. let (l, h) = done-fault rows e in (l, no-flag (flagFault rows) refl h, λ k i. writes k (unfold ok in rows-fine rows h k i)), back)
+    where
+      no-flag : (b : Bool) → flagFault rows ≡ b → 17 ≤ rowFault rows → flagFault rows ≡ false
+      no-flag true e h = let z = by-flag true e in absurd (omega arith)
+      no-flag false e h = e
+
+      back : (length rows ≡ 2176) × (flagFault rows ≡ false) × ((k : ℕ) → k < 17 → Writes k (rowAt rows k)) → checkReply (checkRows rows) ≡ 0 ∷ []
+      back (l, f, w) = rows-pass rows l f (λ k h. unfold ok in passes k h (w k h))
+
+  -- ROW with a kind exactly where the rows are 2,176 numbers and that is the first kind at fault
+  pub checked-row : (k : ℕ) → length rows ≡ 2176 → (checkReply (checkRows rows) ≡ 6 ∷ k ∷ []) ↔ Fault rows k
+  checked-row k l = (λ e. let (z, h) = row-fault rows k e in record { kind = h; why = why (flagFault rows) refl z h }, λ f. says (at (f .why) (f .kind)) (f .kind))
+    where
+      why : (b : Bool) → flagFault rows ≡ b → rowFault rows ≡ k → k < 17
+          → ((flagFault rows ≡ true) × (k ≡ 0)) ⊎ ((flagFault rows ≡ false) × (Writes k (rowAt rows k) → ⊥) × ((j : ℕ) → j < k → Writes j (rowAt rows j)))
+      why true e z h = inl (e, sym z ∙ by-flag true e)
+      why false e z h =
+          let first : before ok 17 ≡ k = sym (by-flag false e) ∙ z in
+          let not : ok k ≡ false = sym (ap ok first) ∙ fails-at ok 17 (subst (λ (n : ℕ). n < 17) (sym first) h) in
+          inr (e, λ w. true≢false (sym (passes k h w) ∙ not), λ j i. writes j (passed-before ok 17 j (subst (λ (n : ℕ). j < n) (sym first) i)))
+
+      at : ((flagFault rows ≡ true) × (k ≡ 0)) ⊎ ((flagFault rows ≡ false) × (Writes k (rowAt rows k) → ⊥) × ((j : ℕ) → j < k → Writes j (rowAt rows j))) → k < 17 → rowFault rows ≡ k
+      at (inl (e, z)) h = by-flag true e ∙ sym z
+      at (inr (e, n, f)) h = by-flag false e ∙ before-stop ok k 17 (before-every ok k (λ j i. passes j (lt-of-lt-of-le i (native.Mathlib.Nat.le-of-lt h)) (f j i))) (refused (ok k) refl) h
+        where
+          refused : (b : Bool) → ok k ≡ b → ok k ≡ false
+          refused true g = absurd (n (writes k g))
+          refused false g = g
+
+      says : rowFault rows ≡ k → k < 17 → checkReply (checkRows rows) ≡ 6 ∷ k ∷ []
+      says z h = ap checkReply (sym (check-row rows l (subst (λ (n : ℕ). n < 17) (sym z) h))) ∙ ap (λ (n : ℕ). 6 ∷ n ∷ []) z
