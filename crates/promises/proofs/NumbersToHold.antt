@@ -6,9 +6,9 @@ use lib.Dec.{lit<}
 use lib.IntN.{pos, negsuc}
 use lib.ListN.{getD}
 use lib.Ieee.{Float, nan, fin, mul, ofInt, le, ne, round}
-use Rattle.transform.specs.Kinds.{widthOf, heightOf, placesOf}
+use Rattle.transform.specs.Kinds.{widthOf, heightOf, areaOf, placesOf}
 use Rattle.bitstream.specs.Half.{half}
-use Rattle.matrix.specs.Mirror.{turned, mirror}
+use Rattle.matrix.specs.Mirror.{straightPlace, transposedPlace, turned, mirror}
 use Rattle.matrix.specs.Raw.{weightOf, refused}
 use Rattle.bands.proofs.TableLaws.{getD-tab}
 
@@ -25,6 +25,11 @@ p11 = (refl, refl, refl)
 pub p12 : weightOf (half 4100) (pos 16) ≡ fin false 257 (negsuc 14)
 unfolding weightOf half round mul ofInt
 p12 = refl
+
+-- of kind 6, 16 wide and 8 high: row 1, column 1 and row 0, column 1
+pub p13-places : (straightPlace 6 0 1 1 ≡ 17) × (transposedPlace 6 0 1 1 ≡ 9) × (straightPlace 6 0 0 1 ≡ 1) × (transposedPlace 6 0 0 1 ≡ 8)
+unfolding widthOf heightOf areaOf
+p13-places = (refl, refl, refl, refl)
 
 -- whatever weights kind 6 has
 pub p13 : (ws : List Float) → (getD (mirror 6 ws) 9 nan ≡ getD ws 17 nan) × (getD (mirror 6 ws) 8 nan ≡ getD ws 1 nan)

@@ -6,14 +6,12 @@ use Prim.Native.Nat.{ℕ}
 use lib.IntN.{ℤ, pos, negsuc}
 use lib.ListN.{length, getD, replicate}
 use lib.Ieee.{Float, nan, fin}
-use Rattle.transform.specs.Kinds.{transposedPlace}
-use Rattle.transform.proofs.Numbers as kinds
 use Rattle.bitstream.specs.Half.{half, barred}
 use Rattle.bitstream.proofs.Numbers as halves
 use Rattle.params.specs.Header.{replyOf, readHeader}
 use Rattle.params.proofs.Numbers as headers
 use Rattle.matrix.specs.Raw.{weightOf, refused}
-use Rattle.matrix.specs.Mirror.{mirror}
+use Rattle.matrix.specs.Mirror.{straightPlace, transposedPlace, mirror}
 use Rattle.matrix.specs.Weight.{weightsOf}
 use Rattle.matrix.specs.Expanded.{expandAnswer}
 use Rattle.matrix.specs.Expanded.{replyOf as expandedReply}
@@ -48,8 +46,8 @@ pub record Table (before rows : List ℕ) (n c : ℕ) (row : List ℕ) (zs : Lis
       × (Raw row zs 0x3c00 (pos 99999996) → expandedReply (expandAnswer 0 row zs 192 192) ≡ 8 ∷ 0 ∷ 0 ∷ 0 ∷ [])
   -- denominator 1004, sample 16: 257/32768
   pub p12 : weightOf (half 0x1004) (pos 16) ≡ fin false 257 (negsuc 14)
-  -- kind 6: straight place 17 is transposed 9, 1 is 8
-  pub p13 : (transposedPlace 6 17 ≡ 9) × (transposedPlace 6 1 ≡ 8)
+  -- kind 6: straight place 17 (row 1, column 1) is transposed 9, 1 (row 0, column 1) is 8; and there the weights stand
+  pub p13 : (straightPlace 6 0 1 1 ≡ 17) × (transposedPlace 6 0 1 1 ≡ 9) × (straightPlace 6 0 0 1 ≡ 1) × (transposedPlace 6 0 0 1 ≡ 8)
   pub p13-mirror : (getD (mirror 6 ws) 9 nan ≡ getD ws 17 nan) × (getD (mirror 6 ws) 8 nan ≡ getD ws 1 nan)
 
 -- a sample whose weight passes, by the row that holds it
@@ -74,6 +72,6 @@ table-holds before rows n c row zs ws l =
       p10 = (passes row zs 0x7bff (pos 1526) (fin false 1561861 (pos 6)) (weights.p10 .0) (weights.p10 .1), λ r. first-refused row zs 0x7bff (pos 1527) r (weights.p10 .2));
       p11 = (passes row zs 0x3c00 (pos 99999995) (fin false 12499999 (pos 3)) (weights.p11 .0) (weights.p11 .1), λ r. first-refused row zs 0x3c00 (pos 99999996) r (weights.p11 .2));
       p12 = weights.p12;
-      p13 = kinds.p13;
+      p13 = weights.p13-places;
       p13-mirror = weights.p13 ws;
     }

@@ -1,10 +1,8 @@
 -- `capi::header::dequant_read_header` meets its contract: LENT for another reply slice, and else what `parse_at` answers and leaves.
 -- Assumes nothing.
-use mathlib.Core.Path.{_≡_, ap, _∙_}
-use Prim.Native.Nat.{ℕ}
-use mathlib.Core.List.{List}
+use mathlib.Core.Path.{ap, _∙_}
 use Rattle.params.specs.declared.read.Reading.{Reading}
-use Rattle.params.specs.Header.{Outcome, readHeader, replyOf}
+use Rattle.params.specs.Header.{readHeader, replyOf}
 use Rattle.capi.specs.Said.{saidOf}
 use Rattle.capi.proofs.Replies.{returned-other, held-other, kept-other, returned-said, held-said, kept-right}
 use borrow.Author.Needs.{needs}

@@ -1,9 +1,7 @@
 -- `capi::jpeg::dequant_jpeg_quant_values` meets its contract: LENT for another reply slice, and else what `jpeg_reply` answers, with the channel's start.
 -- Assumes nothing.
-use mathlib.Core.Path.{_≡_, ap, _∙_}
-use mathlib.Core.Bool.{cond}
+use mathlib.Core.Path.{ap, _∙_}
 use Prim.Native.Nat.{ℕ, _*_}
-use lib.Dec.{ltb}
 use lib.ListN.{length}
 use Rattle.dequant.specs.declared.jpeg.Jpeg.{Jpeg}
 use Rattle.dequant.specs.Jpeg.{jpegAnswer}

@@ -1,10 +1,7 @@
 -- `capi::kind::dequant_expand_kind` meets its contract: LENT for another reply slice, and else what `expand_kind` answers and leaves.
 -- Assumes nothing.
-use mathlib.Core.Path.{_≡_, ap, _∙_}
-use Prim.Native.Nat.{ℕ}
-use mathlib.Core.List.{List}
+use mathlib.Core.Path.{ap, _∙_}
 use lib.ListN.{length}
-use lib.Ieee.{Float}
 use Rattle.matrix.specs.declared.Expanded.{Expanded}
 use Rattle.matrix.specs.Expanded.{expandAnswer, leaves, replyOf}
 use Rattle.matrix.specs.Mirror.{mirror}

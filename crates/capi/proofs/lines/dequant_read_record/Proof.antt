@@ -1,6 +1,6 @@
 -- `capi::lines::dequant_read_record` meets its contract: LENT for another reply slice, and else what `read_record` answers and leaves.
 -- Assumes nothing.
-use mathlib.Core.Path.{_≡_, ap, _∙_}
+use mathlib.Core.Path.{ap, _∙_}
 use lib.ListN.{length}
 use Rattle.record.specs.declared.reader.Taken.{Taken}
 use Rattle.record.specs.Replies.{takenReply, readAnswer, rowsAfter, samplesAfter}

@@ -1,6 +1,6 @@
 -- `capi::lines::dequant_write_record` meets its contract: LENT for another reply slice, and else what `write_record` answers and leaves.
 -- Assumes nothing.
-use mathlib.Core.Path.{_≡_, ap, _∙_}
+use mathlib.Core.Path.{ap, _∙_}
 use lib.ListN.{length}
 use Rattle.record.specs.declared.writer.Written.{Written}
 use Rattle.record.specs.Replies.{writtenReply, writeAnswer, bufferAfter}

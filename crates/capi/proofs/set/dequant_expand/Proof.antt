@@ -1,6 +1,6 @@
 -- `capi::set::dequant_expand` meets its contract: LENT for another reply slice, and else what `expand` answers and leaves.
 -- Assumes nothing.
-use mathlib.Core.Path.{_≡_, ap, _∙_}
+use mathlib.Core.Path.{ap, _∙_}
 use lib.ListN.{length}
 use Rattle.matrix.specs.declared.Expanded.{Expanded}
 use Rattle.matrix.specs.Expanded.{leaves, replyOf}

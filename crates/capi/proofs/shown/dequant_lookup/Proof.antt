@@ -1,6 +1,6 @@
 -- `capi::shown::dequant_lookup` meets its contract: LENT for another reply slice, and else what `said_part` says.
 -- Assumes nothing.
-use mathlib.Core.Path.{_≡_, _∙_}
+use mathlib.Core.Path.{_∙_}
 use lib.ListN.{length}
 use Rattle.capi.specs.Parts.{lookupReply}
 use Rattle.capi.proofs.Replies.{returned-other, held-other, returned-said, held-said}
