@@ -32,12 +32,21 @@ fn show_kinds<'a>(straight: &'a [f32], transposed: &'a [f32]) {
     }
 }
 
+fn list(header: &[u8], straight: &mut [f32], transposed: &mut [f32]) {
+    if show_set::expand_header(header, straight, transposed) {
+        show_kinds(straight, transposed);
+    }
+}
+
+// With two arenas, each lent once: a need after a second loan would count them.
+fn with_arenas(header: &[u8]) {
+    let mut straight = [0.0f32; 394752];
+    let mut transposed = [0.0f32; 394752];
+    list(header, &mut straight, &mut transposed);
+}
+
 fn main() {
     let mut header = [0u8; 2550];
     let n = io::read_full(STDIN_FILENO, &mut header);
-    let mut straight = [0.0f32; 394752];
-    let mut transposed = [0.0f32; 394752];
-    if show_set::expand_header(&header[..n], &mut straight, &mut transposed) {
-        show_kinds(&straight, &transposed);
-    }
+    with_arenas(&header[..n]);
 }
