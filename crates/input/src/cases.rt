@@ -29,7 +29,7 @@ pub fn named<'a>(s: &'a [u8], at: usize, j: usize) -> &'a [u8] {
 }
 
 // n words from `at` on.
-pub fn words<'a>(s: &'a [u8], at: usize, n: usize) -> &'a [u8] {
+fn words<'a>(s: &'a [u8], at: usize, n: usize) -> &'a [u8] {
     if n > 65535 {
         return &s[..0];
     }

@@ -10,7 +10,6 @@ pub use cases::field_bits;
 pub use cases::listed;
 pub use cases::named;
 pub use cases::start;
-pub use cases::words;
 pub use parts::bytes;
 pub use parts::first;
 pub use parts::first_i32;
@@ -40,7 +39,7 @@ pub fn number(part: &[u8]) -> u32 {
 }
 
 // The word number j of four bytes; there are at most 65,536 that count.
-pub fn word(s: &[u8], j: usize) -> u32 {
+pub(crate) fn word(s: &[u8], j: usize) -> u32 {
     if j > 65535 {
         return 0;
     }

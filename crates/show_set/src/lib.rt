@@ -2,6 +2,11 @@
 use libc::STDOUT_FILENO;
 use matrix::Expanded;
 
+mod list;
+
+pub use list::keys;
+pub use list::summaries;
+
 fn wide(x: u32) -> u64 {
     x as u64
 }
@@ -29,7 +34,7 @@ pub fn total(part: &[f32]) -> u64 {
 }
 
 // A weight's bits, as eight hexadecimal digits.
-pub fn weight(x: f32) -> bool {
+pub(crate) fn weight(x: f32) -> bool {
     io::print_hex(STDOUT_FILENO, bits(x), 8)
 }
 
@@ -42,7 +47,7 @@ pub fn item(i: usize, x: f32) {
 }
 
 // The weights of a part, commas between them.
-pub fn weights(part: &[f32]) {
+pub(crate) fn weights(part: &[f32]) {
     let mut i = 0;
     while i < part.len() {
         item(i, part[i]);
@@ -140,7 +145,7 @@ fn expand_rows(rows: &[u16], straight: &mut [f32], transposed: &mut [f32]) -> bo
 }
 
 // Expands the set of a header without raw kinds; whether that was done. What refuses it is written.
-pub fn expand_header(header: &[u8], straight: &mut [f32], transposed: &mut [f32]) -> bool {
+pub(crate) fn expand_header(header: &[u8], straight: &mut [f32], transposed: &mut [f32]) -> bool {
     let mut rows = [0u16; 2176];
     if refused_header(header, &mut rows) {
         return false;

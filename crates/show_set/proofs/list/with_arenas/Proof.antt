@@ -1,11 +1,11 @@
--- `importer::with_arenas` is safe and ends: the lengths come from a law, not by counting. Assumes nothing.
+-- `show_set::list::with_arenas` is safe and ends: the lengths come from a law, not by counting. Assumes nothing.
 use lib.IntN.{pos}
 use lib.Ieee.{Float, fin}
 use lib.ListN.{length-replicate}
 use mathlib.Core.Bool.{false}
 use mathlib.Core.Path.{sym}
-use Rattle.importer.proofs.with_arenas.Statement.{statement}
-use Rattle.importer.proofs.with_arenas.Tie as tie
+use Rattle.show_set.proofs.list.with_arenas.Statement.{statement}
+use Rattle.show_set.proofs.list.with_arenas.Tie as tie
 
 slice-aggregate-list : tie.Need-slice-aggregate-list
 slice-aggregate-list c = sym (length-replicate {0} {A = Float} 394752 (fin false 0 (pos 0)))

@@ -1,9 +1,9 @@
--- `importer::key` is safe and ends. Assumes nothing.
+-- `show_set::list::key` is safe and ends. Assumes nothing.
 use mathlib.Core.Path.{sym}
 use lib.Seq.{length-take-le}
 use borrow.Author.Needs.{needs}
-use Rattle.importer.proofs.key.Statement.{statement}
-use Rattle.importer.proofs.key.Tie as tie
+use Rattle.show_set.proofs.list.key.Statement.{statement}
+use Rattle.show_set.proofs.list.key.Tie as tie
 
 slice-aggregate-weights : tie.Need-slice-aggregate-weights
 slice-aggregate-weights c =
@@ -13,11 +13,8 @@ slice-aggregate-weights c =
 weights-requires : tie.Need-weights-requires
 weights-requires c κs = search needs
 
-slice-aggregate-text : tie.Need-slice-aggregate-text
-slice-aggregate-text c = search needs
-
-text-requires : tie.Need-text-requires
-text-requires c κs = search needs
+end-requires : tie.Need-end-requires
+end-requires c κs = search needs
 
 returns : tie.Need-returns
 returns c = search needs
@@ -25,4 +22,4 @@ returns c = search needs
 pub key-spec : {M : Type 1} → statement M
 key-spec =
     tie.close
-    (tie.spec slice-aggregate-weights weights-requires slice-aggregate-text text-requires returns)
+    (tie.spec slice-aggregate-weights weights-requires end-requires returns)

@@ -1,14 +1,14 @@
--- `matrixlist::show_kinds` is safe and ends. Assumes nothing.
+-- `show_set::list::show_kinds` is safe and ends. Assumes nothing.
 use Prim.Native.Nat.{_≤_, _-_}
 use borrow.Author.Needs.{needs}
-use Rattle.matrixlist.proofs.show_kinds.Statement.{statement}
-use Rattle.matrixlist.proofs.show_kinds.Tie as tie
+use Rattle.show_set.proofs.list.show_kinds.Statement.{statement}
+use Rattle.show_set.proofs.list.show_kinds.Tie as tie
 
 abbrev Inv-loop : tie.InvT-loop
-Inv-loop straight transposed kind₀ kind = kind ≤ 17
+Inv-loop straight transposed keys kind₀ kind = kind ≤ 17
 
 abbrev μ-loop : tie.MeasureT-loop
-μ-loop straight transposed kind₀ kind = 17 - kind
+μ-loop straight transposed keys kind₀ kind = 17 - kind
 
 loop-holds : tie.Need-loop-holds Inv-loop μ-loop
 loop-holds c = search needs
