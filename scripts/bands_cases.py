@@ -1,11 +1,12 @@
 #!/usr/bin/env python3
-"""Prints what crates/bands_cases prints, by Python's integers and fractions alone: band lists over grids, and mode 5's interpolated numbers.
+"""Prints what crates/bands_cases prints, by Python's integers and fractions alone: band lists over grids, mode 5's interpolated numbers,
+and roots and powers (scripts/powers.py).
 
     python3 scripts/bands_cases.py > crates/bands_cases/stdout
 """
 from fractions import Fraction
 
-from power_cases import NAN, power, root, rounded, value
+from powers import NAN, lines, power, root, rounded, value
 
 GRIDS = {(4, 4), (8, 4), (8, 8), (16, 16), (32, 32), (16, 8), (32, 8), (32, 16), (64, 64), (64, 32), (128, 128), (128, 64), (256, 256), (256, 128)}
 FREQS = "0.0 0.0 0.8517779 5.3777843 0.0 0.0 4.734748 5.4492455 1.659827 4.0 7.275749 10.423227 2.6629324 7.6306577 8.962389 12.971662"
@@ -106,6 +107,7 @@ def main():
     freqs("0 3.25 -0.75 65504 58 0 0 0 1 1 2 3")
     freqs("1 3.25 -0.75")
     freqs("1 1 1 1 1 1 1 1 1 1 1 1 1")
+    lines()
 
 
 if __name__ == "__main__":

@@ -3,12 +3,12 @@
 
     python3 scripts/power_accuracy.py [PAIRS]      (default 120000)
 
-P is computed by scripts/power_cases.py, by integers alone. The reference is mpmath where it can be imported, else decimal.
+P is computed by scripts/powers.py, by integers alone. The reference is mpmath where it can be imported, else decimal.
 """
 import random
 import sys
 
-from power_cases import power, value
+from powers import power, value
 
 try:
     import mpmath

@@ -140,7 +140,7 @@ def case(v, name, at):
     for k in range(17):
         for i, x in enumerate(row_of(v, k)):
             if x:
-                rows += [128 * k + i, x]
+                rows.append((128 * k + i) << 16 | x)
     given = v.get("samples", "none")
     whole = 0 if v["call"] == "write_record" and given == "none" else ARENA
     base, step, modulus = rule(given)

@@ -1,11 +1,13 @@
 #!/usr/bin/env python3
-"""Makes crates/set_cases/stdin and crates/set_cases/stdout from the vectors of tests/vectors with call=expand, lookup or jpeg.
+"""Makes crates/set_cases/stdin and crates/set_cases/stdout from the vectors of tests/vectors with call=expand, expand_kind, lookup or jpeg,
+and from two runs of document 01.
 
 A vector is a text file of key=value lines: row.K (the rows, each without the zeros at its end), samples (none, const:V or
-lin:A,B,M: sample p is A + p*B mod M), kind, channel, order, rows_len, samples_len, straight_len and transposed_len where they
-aren't the right ones, and what the call must give. What the vectors want goes to stdout: the reply; of an arena whether it
-is unchanged or zero, or else the total and the weights at the places that the vector lists; of a part its length, its first
-and last, and its total, or its values, once they have the digest that the vector wants. Nothing of ours is run here."""
+lin:A,B,M: sample p is A + p*B mod M; behind it P=V for each sample that stands apart), kind, channel, order, rows_len,
+samples_len, straight_len and transposed_len where they aren't the right ones, and what the call must give. What the vectors want
+goes to stdout: the reply; of an arena whether it is unchanged or zero, or else the total and the weights at the places that the
+vector lists; of a part its length, its first and last, and its total, or its values, once they have the digest that the vector
+wants. Nothing of ours is run here."""
 import array
 import hashlib
 import os
@@ -16,7 +18,7 @@ VECTORS = os.path.join(ROOT, "tests", "vectors")
 CRATE = os.path.join(ROOT, "crates", "set_cases")
 ARENA = 394752
 AREAS = [64, 64, 64, 64, 256, 1024, 128, 256, 512, 64, 64, 4096, 2048, 16384, 8192, 65536, 32768]
-CALLS = {"expand": 0, "lookup": 1, "jpeg": 2}
+CALLS = {"expand": 0, "lookup": 1, "jpeg": 2, "expand_kind": 3}
 ORDERS = {"none": 0, "straight": 1, "transposed": 2}
 
 
@@ -26,20 +28,22 @@ def load(path):
 
 
 def rule(text):
-    """base, step, modulus, sign: below zero all samples are complements, base less the rest"""
+    """base, step, modulus, and those apart: a place and a value each"""
     if text == "none":
-        return 0, 0, 0, 0
-    kind, numbers = text.split(":")
-    a, step, modulus = ([int(x) for x in numbers.split(",")] + [0, 0])[:3]
-    assert kind == "const" and modulus == 0 or kind == "lin"
-    assert a >= 0 or a + max(modulus, 1) <= 0
-    return (a, step, modulus, 0) if a >= 0 else (-a - 1, step, modulus, 1)
+        return 0, 0, 0, []
+    head, *apart = text.split(";")
+    numbers = [int(x) for x in head.split(":")[1].split(",")]
+    return *(numbers + [0, 0])[:3], [tuple(map(int, x.split("="))) for x in apart]
 
 
 def samples(text, n):
-    base, step, modulus, sign = rule(text)
-    rests = [p * step % modulus if modulus else 0 for p in range(n)]
-    return [-(base - r) - 1 if sign else base + r for r in rests]
+    base, step, modulus, apart = rule(text)
+    assert not apart
+    return [base + (p * step % modulus if modulus else 0) for p in range(n)]
+
+
+def bits(x):
+    return struct.unpack("<I", struct.pack("<f", x))[0]
 
 
 def arena(v, name):
@@ -47,6 +51,11 @@ def arena(v, name):
     if want in ("unchanged", "zero"):
         return "%s=%s" % (name, want)
     return "%s=%s,%s" % (name, v["want.%s.total64" % name], v["want.%s.at" % name])
+
+
+def total(weights):
+    """sum of bits x (place + 1), by 2^64"""
+    return sum(w * (p + 1) for p, w in enumerate(weights)) % 2**64
 
 
 def part_of_arena(v):
@@ -59,9 +68,8 @@ def part_of_arena(v):
     digest = hashlib.sha256(array.array("I", part).tobytes()).hexdigest()
     assert v["want.part"] == "%d %s first %x last %x" % (len(part), digest, part[0], part[-1])
     # the program's arenas count up from 0 and from 2^20, as numbers
-    bits = [struct.unpack("<I", struct.pack("<f", x - 0x40000000 + 0x100000 if x >= 0x40000000 else x))[0] for x in part]
-    total = sum(w * (p + 1) for p, w in enumerate(bits)) % 2**64
-    return "part=%d %08x %08x %d" % (len(part), bits[0], bits[-1], total)
+    shown = [bits(x - 0x40000000 + 0x100000 if x >= 0x40000000 else x) for x in part]
+    return "part=%d %08x %08x %d" % (len(part), shown[0], shown[-1], total(shown))
 
 
 def values(v):
@@ -70,38 +78,68 @@ def values(v):
     channel = int(v["channel"])
     part = samples(v["samples"], ARENA)[64 * channel:64 * channel + 64]
     assert v["want.part"] == "64 %s" % hashlib.sha256(array.array("i", part).tobytes()).hexdigest()
-    return "part=" + ",".join("%08x" % struct.unpack("<I", struct.pack("<f", x))[0] for x in part)
+    return "part=" + ",".join("%08x" % bits(x) for x in part)
 
 
 def wanted(v):
-    if v["call"] == "expand":
+    if v["call"] in ("expand", "expand_kind"):
         return ["reply=" + v["want.reply"], arena(v, "straight"), arena(v, "transposed")]
     if v["call"] == "lookup":
         return [part_of_arena(v)]
     return ["reply=" + v["want.reply"].split()[0], values(v)]
 
 
+def lengths(v):
+    """how long the samples, the rows and an arena are where the vector does not say"""
+    kind = int(v.get("kind", 0))
+    if v["call"] != "expand_kind":
+        return ARENA, 2176, ARENA
+    n = 3 * AREAS[kind] if kind < 17 else 192
+    return n, 128, n
+
+
 def case(v, name, at):
-    """the words of a case that begins at a byte, then its places, its rows and its name"""
+    """the words of a case that begins at a byte, then its places, its rows, the samples apart and its name"""
     places = [int(x.split(":")[0]) for x in v.get("want.straight.at", "").split(",") if x]
+    assert places == [int(x.split(":")[0]) for x in v.get("want.transposed.at", "").split(",") if x]
     rows = []
-    for k in range(17):
+    for k in range(18):
         for i, x in enumerate(v.get("row.%d" % k, "").split(",")):
             if x and int(x, 16):
-                rows += [128 * k + i, int(x, 16)]
-    base, step, modulus, sign = rule(v.get("samples", "none"))
-    count = int(v.get("samples_len", 0 if v.get("samples", "none") == "none" else ARENA))
-    words = 18
+                rows.append((i if v["call"] == "expand_kind" else 128 * k + i) << 16 | int(x, 16))
+    given = v.get("samples", "none")
+    base, step, modulus, apart = rule(given)
+    apart = [x % 2**32 for pair in apart for x in pair]
+    whole, numbers, weights = lengths(v)
+    words = 19
     places_at = at + 4 * words
     rows_at = places_at + 4 * len(places)
-    name_at = rows_at + 4 * len(rows)
+    apart_at = rows_at + 4 * len(rows)
+    name_at = apart_at + 4 * len(apart)
     head = [
-        name_at, len(name), CALLS[v["call"]], count, base, step, modulus, sign, int(v.get("kind", 0)), int(v.get("channel", 0)),
-        ORDERS[v.get("order", "none")], places_at, len(places), rows_at, len(rows), int(v.get("rows_len", 2176)),
-        int(v.get("straight_len", ARENA)), int(v.get("transposed_len", ARENA)),
+        name_at, len(name), CALLS[v["call"]], int(v.get("samples_len", 0 if given == "none" else whole)), base % 2**32, step, modulus,
+        int(v.get("kind", 0)), int(v.get("channel", 0)), ORDERS[v.get("order", "none")], places_at, len(places), rows_at, len(rows),
+        int(v.get("rows_len", numbers)), int(v.get("straight_len", weights)), int(v.get("transposed_len", weights)), apart_at, len(apart),
     ]
     assert len(head) == words
-    return struct.pack("<%dI" % len(head + places + rows), *(head + places + rows)) + name.encode()
+    return struct.pack("<%dI" % len(head + places + rows + apart), *(head + places + rows + apart)) + name.encode()
+
+
+def everywhere(v, places, weight, sum_of_all):
+    """a vector of one kind that wants the same weight at all of these places, straight and transposed"""
+    at = ",".join("%d:%08x" % (p, bits(weight)) for p in places)
+    for name in ("straight", "transposed"):
+        v = {**v, "want." + name: "", "want.%s.at" % name: at, "want.%s.total64" % name: str(sum_of_all)}
+    return v
+
+
+def runs():
+    """document 01's: default kind 3, channel 0 is 1/2200 everywhere (its total is a vector's); samples -5 with denominator bc00 give 5"""
+    three = load(os.path.join(VECTORS, "kind-003.vec"))
+    assert three["kind"] == "3" and three["row.3"] == "0" and three["want.straight.total64"] == three["want.transposed.total64"]
+    yield "channel", everywhere(three, range(64), 1 / 2200, three["want.straight.total64"])
+    raw = {"call": "expand_kind", "kind": "0", "row.0": "7,0,0,bc00", "samples": "const:-5", "want.reply": "0"}
+    yield "negative", everywhere(raw, range(192), 5.0, total([bits(5.0)] * 192))
 
 
 def main():
@@ -110,6 +148,7 @@ def main():
         v = load(os.path.join(VECTORS, name))
         if v["call"] in CALLS:
             vectors.append((name.rsplit(".", 1)[0], v))
+    vectors += runs()
     at = 4 + 4 * len(vectors)
     starts, cases, lines = [], [], []
     for name, v in vectors:
@@ -117,6 +156,7 @@ def main():
         cases.append(case(v, name, at))
         at += len(cases[-1])
         lines += [name] + wanted(v)
+    assert at <= 65536
     with open(os.path.join(CRATE, "stdin"), "wb") as f:
         f.write(struct.pack("<%dI" % (1 + len(starts)), len(starts), *starts) + b"".join(cases))
     with open(os.path.join(CRATE, "stdout"), "w") as f:

@@ -1,5 +1,8 @@
-// Prints what `dct_quant_weights` answers and leaves, and mode 5's interpolated numbers, by bit patterns. scripts/bands_cases.py prints the same lines by its own arithmetic.
+// Prints what `dct_quant_weights` answers and leaves, mode 5's interpolated numbers, and roots and powers, by bit patterns.
+// scripts/bands_cases.py prints the same lines by its own arithmetic.
 use bands::Banded;
+
+mod power;
 
 fn wide(x: u32) -> u64 {
     x as u64
@@ -10,19 +13,19 @@ fn long(x: usize) -> u64 {
 }
 
 // The bits of a float; 2143289344 for a NaN.
-fn bits(x: f32) -> u64 {
+pub(crate) fn bits(x: f32) -> u64 {
     if x != x {
         return 2143289344;
     }
     wide(f32::to_bits(x))
 }
 
-fn word(n: u64) {
+pub(crate) fn word(n: u64) {
     io::write_all(1, b" ");
     io::print_decimal(1, n);
 }
 
-fn end_line() {
+pub(crate) fn end_line() {
     io::write_all(1, b"\n");
 }
 
@@ -165,4 +168,5 @@ fn main() {
     defaults();
     lists();
     corners();
+    power::all();
 }

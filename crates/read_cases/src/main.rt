@@ -6,7 +6,7 @@ ghost use Prim.Native.Nat.{_<_};
 
 // A number of n bytes.
 fn number(s: &[u8], at: usize, n: usize) -> u32 {
-    input::number(input::bytes(s, at, n))
+    show::number(show::bytes(s, at, n))
 }
 
 // Reads into rows of a length and shows what is then there.
@@ -24,7 +24,7 @@ fn case(s: &[u8], at: usize) -> usize
     ensures { λ r. ⌜ at < r ⌝ }
 {
     let name = number(s, at, 1) as usize;
-    show::text(input::bytes(s, at + 1, name));
+    show::text(show::bytes(s, at + 1, name));
     show::end();
     let fields = at + 1 + name;
     let kind = number(s, fields, 1) as usize;
@@ -34,10 +34,10 @@ fn case(s: &[u8], at: usize) -> usize
     let header = fields + 8;
     let mut rows = [0xabcdu16; 2304];
     read_into(
-        input::bytes(s, header, size),
+        show::bytes(s, header, size),
         bit,
         kind,
-        input::first_mut_u16(&mut rows, length),
+        show::first_mut_u16(&mut rows, length),
     );
     header + size
 }

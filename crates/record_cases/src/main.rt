@@ -2,10 +2,10 @@
 // reads a set whose kinds are all raw. All numbers of the input are words: how many cases there are, where each begins, and for a
 // case: where its name is and its length, the call, how many samples, their rule (base, step, modulus), how many numbers of rows,
 // where those that are not 0 are listed and in how many words, where its text or header is and its length, and the buffer's length.
-use input::field;
 use libc::STDIN_FILENO;
 use record::Taken;
 use record::Written;
+use show::field;
 
 mod samples;
 mod text;
@@ -20,8 +20,8 @@ fn reply(number: u64, value: usize) {
 
 // A record that was written, and whether the bytes past it stay.
 fn show_record_of(buffer: &[u8], length: usize) {
-    show::text(input::first(buffer, length));
-    if text::untouched(input::rest(buffer, length)) {
+    show::text(show::first(buffer, length));
+    if text::untouched(show::rest(buffer, length)) {
         show::text(b"past=unchanged\n");
     }
 }
@@ -86,7 +86,7 @@ fn show_samples(part: &[i32]) {
 
 // Reads into rows of abcd and samples of 77.
 fn read(source: &[u8], rows: &mut [u16], part: &mut [i32]) {
-    input::fill_samples(part, 77, 0, 0);
+    show::fill_samples(part, 77, 0, 0);
     let r = record::read_record(source, rows, part);
     show_taken(r);
     show::rows(rows);
@@ -95,37 +95,37 @@ fn read(source: &[u8], rows: &mut [u16], part: &mut [i32]) {
 
 fn rows_of(s: &[u8], at: usize) -> [u16; 2304] {
     let mut rows = [0u16; 2304];
-    input::fill_rows(input::listed(s, at, 8), &mut rows);
+    show::fill_rows(show::listed(s, at, 8), &mut rows);
     rows
 }
 
 fn write_rows(s: &[u8], at: usize, part: &[i32], buffer: &mut [u8]) {
     let rows = rows_of(s, at);
     write(
-        input::first_u16(&rows, field(s, at, 7)),
+        show::first_u16(&rows, field(s, at, 7)),
         part,
-        input::first_mut_u8(buffer, field(s, at, 12)),
+        show::first_mut_u8(buffer, field(s, at, 12)),
     );
 }
 
 fn fill(part: &mut [i32], s: &[u8], at: usize) {
-    let base = input::field_bits(s, at, 4);
-    let step = input::field_bits(s, at, 5);
-    let modulus = input::field_bits(s, at, 6);
-    input::fill_samples(part, base, step, modulus);
+    let base = show::field_bits(s, at, 4);
+    let step = show::field_bits(s, at, 5);
+    let modulus = show::field_bits(s, at, 6);
+    show::fill_samples(part, base, step, modulus);
 }
 
 fn write_case(s: &[u8], at: usize, part: &mut [i32], buffer: &mut [u8]) {
     fill(part, s, at);
-    write_rows(s, at, input::first_i32(part, field(s, at, 3)), buffer);
+    write_rows(s, at, show::first_i32(part, field(s, at, 3)), buffer);
 }
 
 fn read_case(s: &[u8], at: usize, part: &mut [i32]) {
     let mut rows = [0xabcdu16; 2304];
     read(
-        input::named(s, at, 10),
-        input::first_mut_u16(&mut rows, field(s, at, 7)),
-        input::first_mut_i32(part, field(s, at, 3)),
+        show::named(s, at, 10),
+        show::first_mut_u16(&mut rows, field(s, at, 7)),
+        show::first_mut_i32(part, field(s, at, 3)),
     );
 }
 
@@ -140,19 +140,19 @@ fn call(s: &[u8], at: usize, part: &mut [i32], buffer: &mut [u8]) {
         read_case(s, at, part);
         return;
     }
-    show_record::quantlist(input::named(s, at, 10));
+    show_record::quantlist(show::named(s, at, 10));
 }
 
 // A case by its number: its name, and what it gives.
 fn run(s: &[u8], i: usize, part: &mut [i32], buffer: &mut [u8]) {
-    let at = input::start(s, i);
-    show::text(input::named(s, at, 0));
+    let at = show::start(s, i);
+    show::text(show::named(s, at, 0));
     show::end();
     call(s, at, part, buffer);
 }
 
 fn run_all(s: &[u8], part: &mut [i32], buffer: &mut [u8]) {
-    let n = input::size(s, 0);
+    let n = show::size(s, 0);
     let mut i = 0;
     while i < n {
         run(s, i, part, buffer);
@@ -181,7 +181,7 @@ fn show_length(r: Written, buffer: &[u8]) -> usize {
     match r {
         Written::Done { length } => {
             show::line(b"length=", length as u64);
-            show::line(b"text=", text::total(input::first(buffer, length)));
+            show::line(b"text=", text::total(show::first(buffer, length)));
             length
         }
         Written::Lent => 0,
@@ -194,11 +194,11 @@ fn show_length(r: Written, buffer: &[u8]) -> usize {
 fn full(part: &mut [i32], buffer: &mut [u8]) {
     let mut rows = [0u16; 2176];
     all_raw(&mut rows);
-    input::fill_samples(part, 2147483648, 2654435761, 4294967291);
+    show::fill_samples(part, 2147483648, 2654435761, 4294967291);
     let r = record::write_record(&rows, part, buffer);
     let n = show_length(r, buffer);
     let mut again = [0xabcdu16; 2176];
-    read(input::first(buffer, n), &mut again, part);
+    read(show::first(buffer, n), &mut again, part);
 }
 
 fn all(s: &[u8], part: &mut [i32], buffer: &mut [u8]) {

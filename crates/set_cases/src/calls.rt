@@ -4,38 +4,33 @@ use crate::shown::show_jpeg;
 use crate::shown::show_part;
 use crate::shown::show_reply;
 use dequant::Order;
-use input::field;
 use matrix::Expanded;
+use show::field;
 
 fn rows_of(s: &[u8], at: usize) -> [u16; 2304] {
     let mut rows = [0u16; 2304];
-    input::fill_rows(input::listed(s, at, 13), &mut rows);
+    show::fill_rows(show::listed(s, at, 12), &mut rows);
     rows
 }
 
 fn row_part<'a>(rows: &'a [u16], s: &[u8], at: usize) -> &'a [u16] {
-    input::first_u16(rows, field(s, at, 15))
+    show::first_u16(rows, field(s, at, 14))
 }
 
-// The first sample's bits: the base, or its complement.
-fn base_of(s: &[u8], at: usize) -> u32 {
-    let base = input::field_bits(s, at, 4);
-    if field(s, at, 7) == 1 {
-        return 4294967295 - base;
-    }
-    base
-}
-
+// The samples by their rule, then those that stand apart from it.
 fn fill(samples: &mut [i32], s: &[u8], at: usize) {
-    let step = input::field_bits(s, at, 5);
-    let modulus = input::field_bits(s, at, 6);
-    input::fill_samples(samples, base_of(s, at), step, modulus);
+    let base = show::field_bits(s, at, 4);
+    let step = show::field_bits(s, at, 5);
+    let modulus = show::field_bits(s, at, 6);
+    show::fill_samples(samples, base, step, modulus);
+    show::put_samples(show::listed(s, at, 17), samples);
 }
 
 fn sample_part<'a>(samples: &'a [i32], s: &[u8], at: usize) -> &'a [i32] {
-    input::first_i32(samples, field(s, at, 3))
+    show::first_i32(samples, field(s, at, 3))
 }
 
+// The set, or its one kind.
 fn expand(
     s: &[u8],
     at: usize,
@@ -44,13 +39,17 @@ fn expand(
     transposed: &mut [f32],
 ) -> Expanded {
     let rows = rows_of(s, at);
-    dequant::expand(row_part(&rows, s, at), samples, straight, transposed)
+    let part = row_part(&rows, s, at);
+    if field(s, at, 2) == 0 {
+        return dequant::expand(part, samples, straight, transposed);
+    }
+    matrix::expand_kind(field(s, at, 7), part, samples, straight, transposed)
 }
 
 // Expands into arenas of the case's lengths, and shows the reply and both.
 fn expand_case(s: &[u8], at: usize, samples: &[i32], straight: &mut [f32], transposed: &mut [f32]) {
     show_reply(expand(s, at, samples, straight, transposed));
-    show_arenas(input::listed(s, at, 11), straight, transposed);
+    show_arenas(show::listed(s, at, 10), straight, transposed);
 }
 
 // Weights that count up from a number.
@@ -78,9 +77,9 @@ fn lookup<'a>(s: &[u8], at: usize, straight: &'a [f32], transposed: &'a [f32]) {
     show_part(dequant::lookup(
         straight,
         transposed,
+        field(s, at, 7),
         field(s, at, 8),
-        field(s, at, 9),
-        order(field(s, at, 10)),
+        order(field(s, at, 9)),
     ));
 }
 
@@ -92,10 +91,10 @@ fn lookup_case(s: &[u8], at: usize, straight: &mut [f32], transposed: &mut [f32]
 }
 
 fn cut_call(s: &[u8], at: usize, samples: &[i32], straight: &mut [f32], transposed: &mut [f32]) {
-    if field(s, at, 2) == 0 {
-        expand_case(s, at, samples, straight, transposed);
-    } else {
+    if field(s, at, 2) == 1 {
         lookup_case(s, at, straight, transposed);
+    } else {
+        expand_case(s, at, samples, straight, transposed);
     }
 }
 
@@ -107,14 +106,14 @@ fn with_arenas(s: &[u8], at: usize, samples: &[i32]) {
         s,
         at,
         samples,
-        input::first_mut_f32(&mut straight, field(s, at, 16)),
-        input::first_mut_f32(&mut transposed, field(s, at, 17)),
+        show::first_mut_f32(&mut straight, field(s, at, 15)),
+        show::first_mut_f32(&mut transposed, field(s, at, 16)),
     );
 }
 
 fn jpeg_case(s: &[u8], at: usize, samples: &[i32]) {
     let rows = rows_of(s, at);
-    show_jpeg(row_part(&rows, s, at), samples, field(s, at, 9));
+    show_jpeg(row_part(&rows, s, at), samples, field(s, at, 8));
 }
 
 fn lent_call(s: &[u8], at: usize, samples: &[i32]) {

@@ -1,7 +1,8 @@
-// Replays cases of `expand`, `lookup` and the JPEG call from standard input and writes what each gives. All numbers are words of
-// four bytes, the lowest first: how many cases there are, where each begins, and for a case: where its name is and its length, the
-// call, how many samples, their rule (base, step, modulus, whether the base is a complement), kind, channel and order, where its
-// places are and how many, where the numbers of its rows are and how many words they have, and the lengths of rows and arenas.
+// Replays cases of `expand`, `expand_kind`, `lookup` and the JPEG call from standard input and writes what each gives. All numbers are
+// words of four bytes, the lowest first: how many cases there are, where each begins, and for a case: where its name is and its length,
+// the call, how many samples, their rule (base, step, modulus), kind, channel and order, where its places are and how many, where the
+// numbers of its rows are and how many words they have, the lengths of rows and arenas, and where the samples that stand apart from
+// the rule are and how many words they have.
 use libc::STDIN_FILENO;
 
 mod calls;
@@ -9,14 +10,14 @@ mod shown;
 
 // A case by its number: its name, and what it gives.
 fn run(s: &[u8], i: usize) {
-    let at = input::start(s, i);
-    show::text(input::named(s, at, 0));
+    let at = show::start(s, i);
+    show::text(show::named(s, at, 0));
     show::end();
     calls::call(s, at);
 }
 
 fn run_all(s: &[u8]) {
-    let n = input::size(s, 0);
+    let n = show::size(s, 0);
     let mut i = 0;
     while i < n {
         run(s, i);

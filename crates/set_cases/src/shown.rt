@@ -4,7 +4,7 @@ use matrix::Expanded;
 
 pub(crate) fn show_reply(r: Expanded) {
     show::text(b"reply=");
-    show_set::reply(r);
+    show_weights::reply(r);
     show::end();
 }
 
@@ -12,7 +12,7 @@ pub(crate) fn show_reply(r: Expanded) {
 fn all_of(part: &[f32], bits: u64) -> bool {
     let mut i = 0;
     while i < part.len() {
-        if show_set::bits(part[i]) != bits {
+        if show_weights::bits(part[i]) != bits {
             return false;
         }
         i += 1;
@@ -24,21 +24,21 @@ fn show_place(part: &[f32], place: usize) {
     show::comma();
     show::decimal(place as u64);
     show::text(b":");
-    show_set::weight_at(part, place);
+    show_weights::weight_at(part, place);
 }
 
 fn show_places(part: &[f32], places: &[u8]) {
     let n = places.len() / 4;
     let mut i = 0;
     while i < n {
-        show_place(part, input::size(places, i));
+        show_place(part, show::size(places, i));
         i += 1;
     }
 }
 
 // The total, and the weights at the places.
 fn show_weights(part: &[f32], places: &[u8]) {
-    show::decimal(show_set::total(part));
+    show::decimal(show_weights::total(part));
     show_places(part, places);
     show::end();
 }
@@ -66,10 +66,10 @@ pub(crate) fn show_arenas(places: &[u8], straight: &[f32], transposed: &[f32]) {
 // The first weight, the last, and the total.
 fn show_ends(part: &[f32], last: usize) {
     show::blank();
-    show_set::weight_at(part, 0);
+    show_weights::weight_at(part, 0);
     show::blank();
-    show_set::weight_at(part, last);
-    show::next(show_set::total(part));
+    show_weights::weight_at(part, last);
+    show::next(show_weights::total(part));
 }
 
 // The length of a part, and its ends where it has some.
@@ -87,7 +87,7 @@ pub(crate) fn show_part(part: &[f32]) {
 fn show_values(part: &[i32]) {
     let mut i = 0;
     while i < part.len() {
-        show_set::item(i, std::num::nearest_i32_to_f32(part[i]));
+        show_weights::item(i, std::num::nearest_i32_to_f32(part[i]));
         i += 1;
     }
 }

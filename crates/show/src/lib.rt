@@ -1,8 +1,35 @@
-// Lines that programs write. What is written no contract can say: each function is proved safe and ending.
+// What programs share: the lines that they write, and what those that replay cases take from their input. What is written no
+// contract can say; where an input is too short a number is 0 and a part is empty. Each function is proved safe and ending.
 use libc::STDOUT_FILENO;
 use params::Reading;
 ghost use Prim.Native.Nat.{_≤_, _<_};
 ghost use lib.ListN.{length};
+
+mod cases;
+mod filled;
+mod parts;
+mod words;
+
+pub use cases::field;
+pub use cases::field_bits;
+pub use cases::listed;
+pub use cases::named;
+pub use cases::start;
+pub use filled::fill_rows;
+pub use filled::fill_samples;
+pub use filled::put_samples;
+pub use parts::bytes;
+pub use parts::first;
+pub use parts::first_i32;
+pub use parts::first_mut_f32;
+pub use parts::first_mut_i32;
+pub use parts::first_mut_u8;
+pub use parts::first_mut_u16;
+pub use parts::first_u16;
+pub use parts::rest;
+pub use words::number;
+pub use words::size;
+pub use words::word;
 
 pub fn text(bytes: &[u8]) -> bool {
     io::write_all(STDOUT_FILENO, bytes)

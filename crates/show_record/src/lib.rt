@@ -6,7 +6,7 @@ fn show_rows(rows: &[u16]) {
     let mut text = [0u8; 8192];
     match record::write_record(rows, &[], &mut text) {
         Written::Done { length } => {
-            show::text(input::first(&text, length));
+            show::text(show::first(&text, length));
         }
         Written::Lent => {}
         Written::Row { kind: _ } => {}

@@ -1,96 +1,10 @@
-// Lines on weights that programs write. What is written no contract can say: each function is proved safe and ending.
-use libc::STDOUT_FILENO;
+// What programs write of a header's set. What is written no contract can say: each function is proved safe and ending.
 use matrix::Expanded;
 
 mod list;
 
 pub use list::keys;
 pub use list::summaries;
-
-fn wide(x: u32) -> u64 {
-    x as u64
-}
-
-// A weight's bits; a NaN counts as 7fc00000.
-pub fn bits(x: f32) -> u64 {
-    if x != x {
-        return 0x7fc00000;
-    }
-    wide(f32::to_bits(x))
-}
-
-// The 64-bit total of bits x (place + 1), wrapping round: from the last place on, each weight's bits are in the running
-// sum once for each place up to its own.
-pub fn total(part: &[f32]) -> u64 {
-    let mut running: u64 = 0;
-    let mut sum: u64 = 0;
-    let mut i = part.len();
-    while i > 0 {
-        i -= 1;
-        running = std::num::wrapping_add_u64(running, bits(part[i]));
-        sum = std::num::wrapping_add_u64(sum, running);
-    }
-    sum
-}
-
-// A weight's bits, as eight hexadecimal digits.
-pub(crate) fn weight(x: f32) -> bool {
-    io::print_hex(STDOUT_FILENO, bits(x), 8)
-}
-
-// A weight, a comma before each but the first.
-pub fn item(i: usize, x: f32) {
-    if i > 0 {
-        show::comma();
-    }
-    weight(x);
-}
-
-// The weights of a part, commas between them.
-pub(crate) fn weights(part: &[f32]) {
-    let mut i = 0;
-    while i < part.len() {
-        item(i, part[i]);
-        i += 1;
-    }
-}
-
-// The weight at a place, and nothing where there is none.
-pub fn weight_at(part: &[f32], i: usize) {
-    if i < part.len() {
-        weight(part[i]);
-    }
-}
-
-fn one(number: u64, kind: usize) -> bool {
-    show::decimal(number);
-    show::next(kind as u64)
-}
-
-fn three(number: u64, kind: usize, channel: usize, last: usize) -> bool {
-    one(number, kind);
-    show::next(channel as u64);
-    show::next(last as u64)
-}
-
-// The reply of an expansion: document 01's number, and its values.
-pub fn reply(r: Expanded) -> bool {
-    match r {
-        Expanded::Done => show::decimal(0),
-        Expanded::Lent => show::decimal(1),
-        Expanded::Row { kind } => one(6, kind),
-        Expanded::Band {
-            kind,
-            channel,
-            band,
-        } => three(7, kind, channel, band),
-        Expanded::Weight {
-            kind,
-            channel,
-            place,
-        } => three(8, kind, channel, place),
-    }
-}
 
 fn refused_kind(number: u64, kind: usize) -> bool {
     show::refusal(number);

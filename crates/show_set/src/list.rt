@@ -1,9 +1,9 @@
 // What programs list of a header's set: for each kind and channel a line on what lookup shows with no order named.
 use crate::expand_header;
-use crate::total;
-use crate::weight_at;
-use crate::weights;
 use dequant::Order;
+use show_weights::total;
+use show_weights::weight_at;
+use show_weights::weights;
 use transform::Kind;
 
 // The first row of a part.
