@@ -1,9 +1,9 @@
--- `record_cases::text::untouched` is safe and ends. Assumes nothing.
+-- `row_cases::text::untouched` is safe and ends. Assumes nothing.
 use lib.ListN.{length}
 use Prim.Native.Nat.{_≤_, _-_}
 use borrow.Author.Needs.{needs}
-use Rattle.record_cases.proofs.text.untouched.Statement.{statement}
-use Rattle.record_cases.proofs.text.untouched.Tie as tie
+use Rattle.row_cases.proofs.text.untouched.Statement.{statement}
+use Rattle.row_cases.proofs.text.untouched.Tie as tie
 
 abbrev Inv-loop : tie.InvT-loop
 Inv-loop s i₀ i = i ≤ length s

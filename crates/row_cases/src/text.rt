@@ -1,16 +1,9 @@
 // The buffer that records are written in.
 
-fn put(s: &mut [u8], i: usize) {
-    if i < s.len() {
-        s[i] = b'Z';
-    }
-}
-
 pub(crate) fn clear(s: &mut [u8]) {
-    let n = s.len();
     let mut i = 0;
-    while i < n {
-        put(s, i);
+    while i < s.len() {
+        s[i] = b'Z';
         i += 1;
     }
 }

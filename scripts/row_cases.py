@@ -1,13 +1,13 @@
 #!/usr/bin/env python3
-"""Makes crates/record_cases/stdin and crates/record_cases/stdout from the vectors of tests/vectors with call=write_record,
-read_record or quantlist.
+"""Makes crates/row_cases/stdin and crates/row_cases/stdout from the vectors of tests/vectors with call=read, write_record,
+read_record or quantlist, and from a set whose kinds are all raw.
 
 A vector is a text file of key=value lines: row.K (the rows, each without the zeros at its end), samples (none, const:V or
 lin:A,B,M: sample p is A + p*B mod M), samples_len and rows_len where they aren't the right ones, text (the record to read, hex),
-header (hex), room (the buffer's length), and what the call must give. What the vectors want goes to stdout: the reply, the
+header (hex), bit, kind, room (the buffer's length), and what the call must give. What the vectors want goes to stdout: the reply, the
 record or that nothing changed, the rows that differ from the fill abcd, and of samples a total. Where a vector has a digest
-only, the record or the samples are worked out here and must have that digest. The run at the end, a set whose kinds are all
-raw, is worked out here too. Nothing of ours is run here."""
+only, the record or the samples are worked out here and must have that digest. The two cases at the end, a set whose kinds are all
+raw written and read back, are worked out here too. Nothing of ours is run here."""
 import array
 import hashlib
 import os
@@ -15,14 +15,14 @@ import struct
 
 ROOT = os.path.join(os.path.dirname(os.path.abspath(__file__)), "..")
 VECTORS = os.path.join(ROOT, "tests", "vectors")
-CRATE = os.path.join(ROOT, "crates", "record_cases")
+CRATE = os.path.join(ROOT, "crates", "row_cases")
 ARENA, ROWS, BUFFER = 394752, 2176, 4500000
 SIDES = [(8, 8)] * 4 + [(16, 16), (32, 32), (16, 8), (32, 8), (32, 16), (8, 8), (8, 8), (64, 64), (64, 32)]
 SIDES += [(128, 128), (128, 64), (256, 256), (256, 128)]
 FIXED = [0, 9, 18, 6, 3, 27, 0, 1]  # numbers of a mode that stand before its band lists
 LISTS = [0, 0, 0, 1, 1, 2, 1, 0]
-CALLS = {"write_record": 0, "read_record": 1, "quantlist": 2}
-FULL = (-2147483648, 2654435761, 4294967291)
+CALLS = {"write_record": 0, "read_record": 1, "back": 2, "read": 3, "quantlist": 4}
+FULL = "lin:-2147483648,2654435761,4294967291"
 
 
 def load(path):
@@ -108,30 +108,38 @@ def taken_samples(v):
     return samples
 
 
-def taken(v):
-    lines = ["reply=" + v["want.reply"]]
-    rows = ["row.%d=%s" % (k, v["want.row.%d" % k]) for k in range(17) if "want.row.%d" % k in v]
-    lines += rows or ["rows=unchanged"]
-    lines.append("samples=unchanged" if v["want.samples"] == "unchanged" else samples_total(taken_samples(v)))
+def told(lines):
     return "".join(line + "\n" for line in lines).encode()
+
+
+def rows_read(v):
+    rows = ["row.%d=%s" % (k, v["want.row.%d" % k]) for k in range(17) if "want.row.%d" % k in v]
+    return ["reply=" + v["want.reply"]] + (rows or ["rows=unchanged"])
+
+
+def samples_read(v):
+    return "samples=unchanged" if v["want.samples"] == "unchanged" else samples_total(taken_samples(v))
 
 
 def wanted(v):
     if v["call"] == "write_record":
         return written(v)
+    if v["call"] == "read":
+        return told(rows_read(v))
     if v["call"] == "read_record":
-        return taken(v)
+        return told(rows_read(v) + [samples_read(v)])
     return bytes.fromhex(v["want.text"])
 
 
-def full():
-    """what the run at the end must write"""
-    samples = samples_of(*FULL)
+def runs():
+    """a set whose kinds are all raw, with samples all over the range: written, and read back"""
+    samples = samples_of(*rule(FULL))
     text = record([[7, 0, 0, 0x1004] + [0] * 124] * 17, samples)
-    assert len(text) <= BUFFER
-    lines = ["full", "length=%d" % len(text), "text=%d" % total(text), "reply=0"]
-    lines += ["row.%d=7,0,0,1004" % k for k in range(17)] + [samples_total(samples)]
-    return "".join(line + "\n" for line in lines).encode()
+    assert 65536 <= len(text) <= BUFFER
+    rows = {"row.%d" % k: "7,0,0,1004" for k in range(17)}
+    write = {"call": "write_record", "samples": FULL, "room": BUFFER, **rows}
+    yield "full", write, told(["reply=0 %d" % len(text), "text=%d" % total(text), "past=unchanged"])
+    yield "back", {"call": "back", "length": len(text)}, told(["reply=0"] + ["%s=%s" % row for row in rows.items()] + [samples_total(samples)])
 
 
 def case(v, name, at):
@@ -145,36 +153,38 @@ def case(v, name, at):
     whole = 0 if v["call"] == "write_record" and given == "none" else ARENA
     base, step, modulus = rule(given)
     text = bytes.fromhex(v.get("text", v.get("header", "")))
-    words = 13
+    words = 15
     rows_at = at + 4 * words
     text_at = rows_at + 4 * len(rows)
     name_at = text_at + len(text)
     head = [
         name_at, len(name), CALLS[v["call"]], int(v.get("samples_len", whole)), base % 2**32, step, modulus,
-        int(v.get("rows_len", ROWS)), rows_at, len(rows), text_at, len(text), int(v.get("room", 0)),
+        int(v.get("rows_len", ROWS)), rows_at, len(rows), text_at, v.get("length", len(text)), int(v.get("room", 0)),
+        int(v.get("bit", 0)), int(v.get("kind", 0)),
     ]
     assert len(head) == words
     return struct.pack("<%dI" % len(head + rows), *(head + rows)) + text + name.encode()
 
 
 def main():
-    vectors = []
+    cases = []
     for name in sorted(os.listdir(VECTORS)):
         v = load(os.path.join(VECTORS, name))
         if v["call"] in CALLS:
-            vectors.append((name.rsplit(".", 1)[0], v))
-    at = 4 + 4 * len(vectors)
-    begins, cases, out = [], [], b""
-    for name, v in vectors:
+            cases.append((name.rsplit(".", 1)[0], v, wanted(v)))
+    cases += runs()
+    at = 4 + 4 * len(cases)
+    begins, words, out = [], [], b""
+    for name, v, lines in cases:
         begins.append(at)
-        cases.append(case(v, name, at))
-        at += len(cases[-1])
-        out += name.encode() + b"\n" + wanted(v)
+        words.append(case(v, name, at))
+        at += len(words[-1])
+        out += name.encode() + b"\n" + lines
     assert at <= 65536
     with open(os.path.join(CRATE, "stdin"), "wb") as f:
-        f.write(struct.pack("<%dI" % (1 + len(begins)), len(begins), *begins) + b"".join(cases))
+        f.write(struct.pack("<%dI" % (1 + len(begins)), len(begins), *begins) + b"".join(words))
     with open(os.path.join(CRATE, "stdout"), "wb") as f:
-        f.write(out + full())
+        f.write(out)
 
 
 main()

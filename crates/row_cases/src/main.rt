@@ -1,7 +1,7 @@
-// Replays cases of `write_record`, `read_record` and `quantlist` from standard input and writes what each gives; then writes and
-// reads a set whose kinds are all raw. All numbers of the input are words: how many cases there are, where each begins, and for a
-// case: where its name is and its length, the call, how many samples, their rule (base, step, modulus), how many numbers of rows,
-// where those that are not 0 are listed and in how many words, where its text or header is and its length, and the buffer's length.
+// Replays cases of the calls on rows from standard input and writes what each gives: reading a header (`parse_at`), `write_record`,
+// `read_record` and `quantlist`. All numbers of the input are words: how many cases there are, where each begins, and for a case: where
+// its name is and its length, the call, how many samples, their rule (base, step, modulus), how many numbers of rows, where those that
+// are not 0 are listed and in how many words, where its text or header is and its length, the buffer's length, the bit and the kind.
 use libc::STDIN_FILENO;
 use record::Taken;
 use record::Written;
@@ -18,9 +18,18 @@ fn reply(number: u64, value: usize) {
     show::text(b"\n");
 }
 
+// A record, or of a long one the total.
+fn show_text(record: &[u8]) {
+    if record.len() < 65536 {
+        show::text(record);
+        return;
+    }
+    show::line(b"text=", text::total(record));
+}
+
 // A record that was written, and whether the bytes past it stay.
 fn show_record_of(buffer: &[u8], length: usize) {
-    show::text(show::first(buffer, length));
+    show_text(show::first(buffer, length));
     if text::untouched(show::rest(buffer, length)) {
         show::text(b"past=unchanged\n");
     }
@@ -120,13 +129,46 @@ fn write_case(s: &[u8], at: usize, part: &mut [i32], buffer: &mut [u8]) {
     write_rows(s, at, show::first_i32(part, field(s, at, 3)), buffer);
 }
 
-fn read_case(s: &[u8], at: usize, part: &mut [i32]) {
+fn read_case(s: &[u8], at: usize, source: &[u8], part: &mut [i32]) {
     let mut rows = [0xabcdu16; 2304];
     read(
-        show::named(s, at, 10),
+        source,
         show::first_mut_u16(&mut rows, field(s, at, 7)),
         show::first_mut_i32(part, field(s, at, 3)),
     );
+}
+
+// The record that a case before left in the buffer, as long as the case says.
+fn back_case(s: &[u8], at: usize, part: &mut [i32], buffer: &[u8]) {
+    read_case(s, at, show::first(buffer, field(s, at, 11)), part);
+}
+
+// Reads a header into rows of abcd.
+fn read_header(header: &[u8], bit: usize, kind: usize, rows: &mut [u16]) {
+    let r = params::parse_at(header, bit as u64, kind, rows);
+    show::text(b"reply=");
+    show::reading(r);
+    show::end();
+    show::rows(rows);
+}
+
+fn header_case(s: &[u8], at: usize) {
+    let mut rows = [0xabcdu16; 2304];
+    read_header(
+        show::named(s, at, 10),
+        field(s, at, 13),
+        field(s, at, 14),
+        show::first_mut_u16(&mut rows, field(s, at, 7)),
+    );
+}
+
+// The calls that lend neither samples nor a buffer.
+fn header_call(s: &[u8], at: usize) {
+    if field(s, at, 2) == 3 {
+        header_case(s, at);
+        return;
+    }
+    show_record::quantlist(show::named(s, at, 10));
 }
 
 // The call that a case names.
@@ -137,10 +179,14 @@ fn call(s: &[u8], at: usize, part: &mut [i32], buffer: &mut [u8]) {
         return;
     }
     if c == 1 {
-        read_case(s, at, part);
+        read_case(s, at, show::named(s, at, 10), part);
         return;
     }
-    show_record::quantlist(show::named(s, at, 10));
+    if c == 2 {
+        back_case(s, at, part, buffer);
+        return;
+    }
+    header_call(s, at);
 }
 
 // A case by its number: its name, and what it gives.
@@ -160,58 +206,11 @@ fn run_all(s: &[u8], part: &mut [i32], buffer: &mut [u8]) {
     }
 }
 
-fn put(rows: &mut [u16], i: usize, v: u16) {
-    if i < rows.len() {
-        rows[i] = v;
-    }
-}
-
-// Each kind raw, with denominator 1004.
-fn all_raw(rows: &mut [u16]) {
-    let mut kind = 0;
-    while kind < 17 {
-        put(rows, kind * 128, 7);
-        put(rows, kind * 128 + 3, 0x1004);
-        kind += 1;
-    }
-}
-
-// A record's length and total; the length.
-fn show_length(r: Written, buffer: &[u8]) -> usize {
-    match r {
-        Written::Done { length } => {
-            show::line(b"length=", length as u64);
-            show::line(b"text=", text::total(show::first(buffer, length)));
-            length
-        }
-        Written::Lent => 0,
-        Written::Row { kind: _ } => 0,
-        Written::Room { length: _ } => 0,
-    }
-}
-
-// Writes a set whose kinds are all raw, with samples all over the range, and reads it again.
-fn full(part: &mut [i32], buffer: &mut [u8]) {
-    let mut rows = [0u16; 2176];
-    all_raw(&mut rows);
-    show::fill_samples(part, 2147483648, 2654435761, 4294967291);
-    let r = record::write_record(&rows, part, buffer);
-    let n = show_length(r, buffer);
-    let mut again = [0xabcdu16; 2176];
-    read(show::first(buffer, n), &mut again, part);
-}
-
-fn all(s: &[u8], part: &mut [i32], buffer: &mut [u8]) {
-    run_all(s, part, buffer);
-    show::text(b"full\n");
-    full(part, buffer);
-}
-
-// With samples, and a buffer that is long enough for each case and for the run at the end.
+// With samples, and a buffer that is long enough for each case.
 fn with_buffer(s: &[u8]) {
     let mut part = [0i32; 394752];
     let mut buffer = [0u8; 4500000];
-    all(s, &mut part, &mut buffer);
+    run_all(s, &mut part, &mut buffer);
 }
 
 fn main() {

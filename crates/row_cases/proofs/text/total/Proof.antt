@@ -1,15 +1,15 @@
--- `record_cases::samples::total` is safe and ends. Assumes nothing.
+-- `row_cases::text::total` is safe and ends. Assumes nothing.
 use lib.ListN.{length}
 use Prim.Native.Nat.{_≤_}
 use borrow.Author.Needs.{needs}
-use Rattle.record_cases.proofs.samples.total.Statement.{statement}
-use Rattle.record_cases.proofs.samples.total.Tie as tie
+use Rattle.row_cases.proofs.text.total.Statement.{statement}
+use Rattle.row_cases.proofs.text.total.Tie as tie
 
 abbrev Inv-loop : tie.InvT-loop
-Inv-loop samples running₀ sum₀ i₀ running sum i = i ≤ length samples
+Inv-loop s running₀ sum₀ i₀ running sum i = i ≤ length s
 
 abbrev μ-loop : tie.MeasureT-loop
-μ-loop samples running₀ sum₀ i₀ running sum i = i
+μ-loop s running₀ sum₀ i₀ running sum i = i
 
 loop-holds : tie.Need-loop-holds Inv-loop μ-loop
 loop-holds c = search needs
@@ -17,14 +17,11 @@ loop-holds c = search needs
 sub-i : tie.Need-sub-i Inv-loop μ-loop
 sub-i c = search needs
 
-mul-bits : tie.Need-mul-bits Inv-loop μ-loop
-mul-bits c = search needs
+shared-slice-read-wide : tie.Need-shared-slice-read-wide Inv-loop μ-loop
+shared-slice-read-wide c = search needs
 
-shared-slice-copy-out-bits : tie.Need-shared-slice-copy-out-bits Inv-loop μ-loop
-shared-slice-copy-out-bits c = search needs
-
-bits-requires : tie.Need-bits-requires Inv-loop μ-loop
-bits-requires c κs = search needs
+wide-requires : tie.Need-wide-requires Inv-loop μ-loop
+wide-requires c κs = search needs
 
 wrapping-add-u64-requires : tie.Need-wrapping-add-u64-requires Inv-loop μ-loop
 wrapping-add-u64-requires c κs = search needs
@@ -49,9 +46,8 @@ total-spec =
     μ-loop
     loop-holds
     sub-i
-    mul-bits
-    shared-slice-copy-out-bits
-    bits-requires
+    shared-slice-read-wide
+    wide-requires
     wrapping-add-u64-requires
     wrapping-add-u64-requires-2
     loop-less

@@ -1,8 +1,8 @@
--- `record_cases::samples::bits` is safe. Assumes nothing.
+-- `row_cases::samples::bits` is safe. Assumes nothing.
 use Rattle.record.proofs.SignPlaces.{as-wide, turned-fits, turned-cast, kept-cast, below-of, above-of}
 use borrow.Author.Needs.{needs}
-use Rattle.record_cases.proofs.samples.bits.Statement.{statement}
-use Rattle.record_cases.proofs.samples.bits.Tie as tie
+use Rattle.row_cases.proofs.samples.bits.Statement.{statement}
+use Rattle.row_cases.proofs.samples.bits.Tie as tie
 
 cast-wrapping-sub-u64 : tie.Need-cast-wrapping-sub-u64
 cast-wrapping-sub-u64 c = as-wide _ (c .before .fits .x)

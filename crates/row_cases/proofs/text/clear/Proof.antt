@@ -1,25 +1,22 @@
--- `record_cases::run_all` is safe and ends. Assumes nothing.
+-- `row_cases::text::clear` is safe and ends. Assumes nothing.
 use mathlib.Core.Path.{_≡_}
 use lib.ListN.{length}
 use Prim.Native.Nat.{_≤_, _-_}
 use borrow.Author.Needs.{needs}
-use Rattle.record_cases.proofs.run_all.Statement.{statement}
-use Rattle.record_cases.proofs.run_all.Tie as tie
+use Rattle.row_cases.proofs.text.clear.Statement.{statement}
+use Rattle.row_cases.proofs.text.clear.Tie as tie
 
 abbrev Inv-loop : tie.InvT-loop
-Inv-loop s part₀ buffer₀ n i₀ part buffer i = (length part ≡ length part₀) × (length buffer ≡ length buffer₀) × (i ≤ n)
+Inv-loop s₀ i₀ s i = (i ≤ length s₀) × (length s ≡ length s₀)
 
 abbrev μ-loop : tie.MeasureT-loop
-μ-loop s part₀ buffer₀ n i₀ part buffer i = n - i
-
-size-requires : tie.Need-size-requires Inv-loop μ-loop
-size-requires c κs = search needs
+μ-loop s₀ i₀ s i = length s₀ - i
 
 loop-holds : tie.Need-loop-holds Inv-loop μ-loop
 loop-holds c = search needs
 
-run-requires : tie.Need-run-requires Inv-loop μ-loop
-run-requires c κs = search needs
+slice-write-s : tie.Need-slice-write-s Inv-loop μ-loop
+slice-write-s c = search needs
 
 add-i : tie.Need-add-i Inv-loop μ-loop
 add-i c = search needs
@@ -33,24 +30,19 @@ loop-again c = search needs
 same-length : tie.Need-same-length Inv-loop μ-loop
 same-length c = search needs
 
-same-length-2 : tie.Need-same-length-2 Inv-loop μ-loop
-same-length-2 c = search needs
-
 returns : tie.Need-returns Inv-loop μ-loop
 returns c = search needs
 
-pub run-all-spec : {M : Type 1} → statement M
-run-all-spec =
+pub clear-spec : {M : Type 1} → statement M
+clear-spec =
     tie.close
     (tie.spec
     Inv-loop
     μ-loop
-    size-requires
     loop-holds
-    run-requires
+    slice-write-s
     add-i
     loop-less
     loop-again
     same-length
-    same-length-2
     returns)

@@ -1,9 +1,9 @@
--- `record_cases::samples::untouched` is safe and ends. Assumes nothing.
+-- `row_cases::samples::untouched` is safe and ends. Assumes nothing.
 use lib.ListN.{length}
 use Prim.Native.Nat.{_≤_, _-_}
 use borrow.Author.Needs.{needs}
-use Rattle.record_cases.proofs.samples.untouched.Statement.{statement}
-use Rattle.record_cases.proofs.samples.untouched.Tie as tie
+use Rattle.row_cases.proofs.samples.untouched.Statement.{statement}
+use Rattle.row_cases.proofs.samples.untouched.Tie as tie
 
 abbrev Inv-loop : tie.InvT-loop
 Inv-loop samples i₀ i = i ≤ length samples
