@@ -102,14 +102,8 @@ fn read(source: &[u8], rows: &mut [u16], part: &mut [i32]) {
     show_samples(part);
 }
 
-fn rows_of(s: &[u8], at: usize) -> [u16; 2304] {
-    let mut rows = [0u16; 2304];
-    show::fill_rows(show::listed(s, at, 8), &mut rows);
-    rows
-}
-
 fn write_rows(s: &[u8], at: usize, part: &[i32], buffer: &mut [u8]) {
-    let rows = rows_of(s, at);
+    let rows = show::rows_listed(s, at, 8);
     write(
         show::first_u16(&rows, field(s, at, 7)),
         part,
@@ -117,15 +111,8 @@ fn write_rows(s: &[u8], at: usize, part: &[i32], buffer: &mut [u8]) {
     );
 }
 
-fn fill(part: &mut [i32], s: &[u8], at: usize) {
-    let base = show::field_bits(s, at, 4);
-    let step = show::field_bits(s, at, 5);
-    let modulus = show::field_bits(s, at, 6);
-    show::fill_samples(part, base, step, modulus);
-}
-
 fn write_case(s: &[u8], at: usize, part: &mut [i32], buffer: &mut [u8]) {
-    fill(part, s, at);
+    show::fill_by_rule(part, s, at);
     write_rows(s, at, show::first_i32(part, field(s, at, 3)), buffer);
 }
 

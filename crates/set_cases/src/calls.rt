@@ -7,22 +7,13 @@ use dequant::Order;
 use matrix::Expanded;
 use show::field;
 
-fn rows_of(s: &[u8], at: usize) -> [u16; 2304] {
-    let mut rows = [0u16; 2304];
-    show::fill_rows(show::listed(s, at, 12), &mut rows);
-    rows
-}
-
 fn row_part<'a>(rows: &'a [u16], s: &[u8], at: usize) -> &'a [u16] {
     show::first_u16(rows, field(s, at, 14))
 }
 
 // The samples by their rule, then those that stand apart from it.
 fn fill(samples: &mut [i32], s: &[u8], at: usize) {
-    let base = show::field_bits(s, at, 4);
-    let step = show::field_bits(s, at, 5);
-    let modulus = show::field_bits(s, at, 6);
-    show::fill_samples(samples, base, step, modulus);
+    show::fill_by_rule(samples, s, at);
     show::put_samples(show::listed(s, at, 17), samples);
 }
 
@@ -38,7 +29,7 @@ fn expand(
     straight: &mut [f32],
     transposed: &mut [f32],
 ) -> Expanded {
-    let rows = rows_of(s, at);
+    let rows = show::rows_listed(s, at, 12);
     let part = row_part(&rows, s, at);
     if field(s, at, 2) == 0 {
         return dequant::expand(part, samples, straight, transposed);
@@ -112,7 +103,7 @@ fn with_arenas(s: &[u8], at: usize, samples: &[i32]) {
 }
 
 fn jpeg_case(s: &[u8], at: usize, samples: &[i32]) {
-    let rows = rows_of(s, at);
+    let rows = show::rows_listed(s, at, 12);
     show_jpeg(row_part(&rows, s, at), samples, field(s, at, 8));
 }
 

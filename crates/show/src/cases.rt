@@ -1,5 +1,7 @@
 // Cases of an input of words: how many there are, where each begins, and for each the words that its program names. A case is known by
 // the byte at which it begins.
+use crate::filled::fill_rows;
+use crate::filled::fill_samples;
 use crate::parts::bytes;
 use crate::parts::rest;
 use crate::words::size;
@@ -15,7 +17,7 @@ pub fn start(s: &[u8], i: usize) -> usize {
 }
 
 // The word number j of a case.
-pub fn field_bits(s: &[u8], at: usize, j: usize) -> u32 {
+fn field_bits(s: &[u8], at: usize, j: usize) -> u32 {
     word(rest(s, at), j)
 }
 
@@ -39,4 +41,19 @@ fn words<'a>(s: &'a [u8], at: usize, n: usize) -> &'a [u8] {
 // The words that a case names by word j and the next.
 pub fn listed<'a>(s: &'a [u8], at: usize, j: usize) -> &'a [u8] {
     words(s, field(s, at, j), field(s, at, sum(j, 1)))
+}
+
+// Rows of 0 but for the numbers that a case lists.
+pub fn rows_listed(s: &[u8], at: usize, j: usize) -> [u16; 2304] {
+    let mut rows = [0u16; 2304];
+    fill_rows(listed(s, at, j), &mut rows);
+    rows
+}
+
+// The samples by the rule of a case: base, step and modulus are its words 4, 5 and 6.
+pub fn fill_by_rule(samples: &mut [i32], s: &[u8], at: usize) {
+    let base = field_bits(s, at, 4);
+    let step = field_bits(s, at, 5);
+    let modulus = field_bits(s, at, 6);
+    fill_samples(samples, base, step, modulus);
 }

@@ -11,7 +11,7 @@ fn put(rows: &mut [u16], both: u32) {
 }
 
 // The numbers of rows that the list has, each with its place in one word.
-pub fn fill_rows(list: &[u8], rows: &mut [u16]) {
+pub(crate) fn fill_rows(list: &[u8], rows: &mut [u16]) {
     let n = list.len() / 4;
     let mut j = 0;
     while j < n {

@@ -11,14 +11,13 @@ mod parts;
 mod words;
 
 pub use cases::field;
-pub use cases::field_bits;
+pub use cases::fill_by_rule;
 pub use cases::listed;
 pub use cases::named;
+pub use cases::rows_listed;
 pub use cases::start;
-pub use filled::fill_rows;
 pub use filled::fill_samples;
 pub use filled::put_samples;
-pub use parts::bytes;
 pub use parts::first;
 pub use parts::first_i32;
 pub use parts::first_mut_f32;
@@ -27,9 +26,7 @@ pub use parts::first_mut_u8;
 pub use parts::first_mut_u16;
 pub use parts::first_u16;
 pub use parts::rest;
-pub use words::number;
 pub use words::size;
-pub use words::word;
 
 pub fn text(bytes: &[u8]) -> bool {
     io::write_all(STDOUT_FILENO, bytes)
@@ -185,20 +182,14 @@ fn touched_row(kind: usize, numbers: &[u16]) {
     }
 }
 
-fn row_of(rows: &[u16], kind: usize)
-    requires { ⌜ kind < 17 ⌝ }
-{
-    let at = kind * 128;
-    let end = at + 128;
-    if end <= rows.len() {
-        touched_row(kind, &rows[at..end]);
-    }
-}
-
 fn touched_rows(rows: &[u16]) {
     let mut kind = 0;
     while kind < 17 {
-        row_of(rows, kind);
+        let at = kind * 128;
+        let end = at + 128;
+        if end <= rows.len() {
+            touched_row(kind, &rows[at..end]);
+        }
         kind += 1;
     }
 }

@@ -16,7 +16,7 @@ pub fn first<'a>(s: &'a [u8], n: usize) -> &'a [u8] {
 }
 
 // n bytes from `at` on.
-pub fn bytes<'a>(s: &'a [u8], at: usize, n: usize) -> &'a [u8] {
+pub(crate) fn bytes<'a>(s: &'a [u8], at: usize, n: usize) -> &'a [u8] {
     first(rest(s, at), n)
 }
 

@@ -6,7 +6,7 @@ fn wide(x: u8) -> u32 {
 }
 
 // A number, its lowest byte first.
-pub fn number(part: &[u8]) -> u32 {
+fn number(part: &[u8]) -> u32 {
     let mut v: u32 = 0;
     let mut i = part.len();
     while i > 0 {
@@ -17,7 +17,7 @@ pub fn number(part: &[u8]) -> u32 {
 }
 
 // The word number j; there are at most 65,536 that count.
-pub fn word(s: &[u8], j: usize) -> u32 {
+pub(crate) fn word(s: &[u8], j: usize) -> u32 {
     if j > 65535 {
         return 0;
     }

@@ -13,8 +13,26 @@ abbrev μ-loop : tie.MeasureT-loop
 loop-holds : tie.Need-loop-holds Inv-loop μ-loop
 loop-holds c = search needs
 
-row-of-requires : tie.Need-row-of-requires Inv-loop μ-loop
-row-of-requires c κs = search needs
+mul-at : tie.Need-mul-at Inv-loop μ-loop
+mul-at c = search needs
+
+add-end : tie.Need-add-end Inv-loop μ-loop
+add-end c = search needs
+
+mul-touched-row : tie.Need-mul-touched-row Inv-loop μ-loop
+mul-touched-row c = search needs
+
+sub-touched-row : tie.Need-sub-touched-row Inv-loop μ-loop
+sub-touched-row c = search needs
+
+part-touched-row-start : tie.Need-part-touched-row-start Inv-loop μ-loop
+part-touched-row-start c = search needs
+
+part-touched-row-end : tie.Need-part-touched-row-end Inv-loop μ-loop
+part-touched-row-end c = search needs
+
+touched-row-requires : tie.Need-touched-row-requires Inv-loop μ-loop
+touched-row-requires c κs = search needs
 
 add-kind : tie.Need-add-kind Inv-loop μ-loop
 add-kind c = search needs
@@ -31,4 +49,4 @@ returns c = search needs
 pub touched-rows-spec : {M : Type 1} → statement M
 touched-rows-spec =
     tie.close
-    (tie.spec Inv-loop μ-loop loop-holds row-of-requires add-kind loop-less loop-again returns)
+    (tie.spec Inv-loop μ-loop loop-holds mul-at add-end mul-touched-row sub-touched-row part-touched-row-start part-touched-row-end touched-row-requires add-kind loop-less loop-again returns)
