@@ -8,14 +8,10 @@ import re
 
 from check_refused import FN, ROOT, public
 
-FIRST = ["one_wrong_each", "another_wrong_each"]
-
-
 def edits(crate):
     """The edits of a crate, in the order of the table's columns."""
     found = {edit.stem: edit.read_text().splitlines() for edit in sorted((crate / "must-fail").glob("*.edit"))}
-    order = [label for label in FIRST if label in found] + [label for label in found if label not in FIRST]
-    return [(label, found[label]) for label in order]
+    return [(label, found[label]) for label in sorted(found, key=lambda label: ("another" in label, label))]
 
 
 def seen_as(path):
