@@ -16,10 +16,10 @@ use Rattle.transform.proofs.Laws.{end-le}
 use Rattle.params.specs.Row.{fixed, lists, allowed}
 use Rattle.params.proofs.AllowedLaws.{and-true}
 use Rattle.record.specs.Format.{Answer, got, bad, Format, _▷_, mapAnswer}
-use Rattle.record.specs.declared.piece.Num.{Num}
-use Rattle.record.specs.declared.piece.Num.the-variants.{Got, Bad}
-use Rattle.record.specs.declared.piece.Scan as scan
-use Rattle.record.specs.declared.piece.Scan.the-variants as scans
+use Rattle.record.specs.declared.Num.{Num}
+use Rattle.record.specs.declared.Num.the-variants.{Got, Bad}
+use Rattle.record.specs.declared.Scan as scan
+use Rattle.record.specs.declared.Scan.the-variants as scans
 use Rattle.record.specs.Text.{bytes}
 use Rattle.record.specs.Number.{isDigit, number, signed}
 use Rattle.record.specs.Half.{half}
@@ -144,7 +144,7 @@ part-fits k m n e = go (ℕ-discrete m 7)
     go (yes h) = let z : n ≡ placesOf k = e ∙ rw (eq-eqb m 7 h) in omega (arith, z, end-le k)
     go (no h) = let z : n ≡ 0 = e ∙ rw (ne-eqb m 7 h) in omega (arith, z, end-le k)
 
--- ---- entry_at
+-- ---- row_at: the entry
 
 -- a mode that was read is below 8
 pub mode-small : (k m : ℕ) → modeLines k .Ok m → m < 8
@@ -171,14 +171,7 @@ module _ (s : List ℕ) (at k : ℕ) (r : Num) (e : r ≡ num (readAt (modeLines
         reads-second (modeLines k) (parts k) s at m p x (PartsStored k row₁ row' arena arena') (EntryStored k row row' arena arena') (num-got (readAt (modeLines k) s at) r m p e j) g
         (λ b v. (v .0 ∙ ap (λ (l : List ℕ). sets (sets l 1 (b .0)) 3 (b .1 .0)) z, v .1))
 
-pub fresh-set : (row row₁ : List ℕ) (m : ℕ) → Fresh row → row₁ ≡ set row 0 m → Fresh row₁
-fresh-set row row₁ m f e = subst⁻¹ Fresh e (record {
-  long = lib.ListN.length-set row 0 m ∙ f .long;
-  first = getD-set-other row 0 1 m 0 (λ q. omega arith) ∙ f .first;
-  second = getD-set-other row 0 2 m 0 (λ q. omega arith) ∙ f .second;
-})
-
--- ---- row_at
+-- ---- row_at: the row
 
 sets-cons : (x : ℕ) (l : List ℕ) (i : ℕ) (vs : List ℕ) → sets (x ∷ l) (suc i) vs ≡ x ∷ sets l i vs
 sets-cons x l i [] = refl

@@ -6,7 +6,7 @@ use Prim.Native.Nat.{ℕ, _+_, _-_, _*_}
 use lib.IntN.{ℤ}
 use lib.ListN.{length, getD, set, drop}
 use lib.Seq.{sets}
-use lib.Dec.{eqb}
+use lib.Dec.{eqb, ltb}
 use Rattle.transform.specs.Kinds.{startOf}
 use Rattle.record.specs.Record.{Entry}
 use Rattle.record.specs.Rows.{Row}
@@ -16,12 +16,12 @@ use Rattle.record.specs.Format.{Answer, got, bad, pick, Format}
 use Rattle.record.specs.Number.{isDigit, number}
 use Rattle.record.specs.Half.{isHex, hexValue, mayFollow, half}
 use Rattle.record.specs.Text.{bytes}
-use Rattle.record.specs.declared.piece.Num.{Num}
-use Rattle.record.specs.declared.piece.Num.the-variants.{Got, Bad}
-use Rattle.record.specs.declared.piece.Sample as sample
-use Rattle.record.specs.declared.piece.Sample.the-variants as samples
-use Rattle.record.specs.declared.piece.Scan as scan
-use Rattle.record.specs.declared.piece.Scan.the-variants as scans
+use Rattle.record.specs.declared.Num.{Num}
+use Rattle.record.specs.declared.Num.the-variants.{Got, Bad}
+use Rattle.record.specs.declared.Sample as sample
+use Rattle.record.specs.declared.Sample.the-variants as samples
+use Rattle.record.specs.declared.Scan as scan
+use Rattle.record.specs.declared.Scan.the-variants as scans
 
 -- an answer from position `at` on: its numbers are positions too
 abbrev pub shift : {A : Type 0} → ℕ → Answer A → Answer A
@@ -72,6 +72,10 @@ slot hex end = pick hex (half end) (number 16 end)
 -- the name of their line
 abbrev pub slotName : Bool → List ℕ
 slotName hex = pick hex (bytes "numbers=") (bytes "bands=")
+
+-- where a kind's three lines start among 26 bytes
+abbrev pub linesStart : ℕ → ℕ
+linesStart k = pick (ltb k 10) 1 0
 
 -- a row in hand: 128 slots, and no band count yet
 pub record Fresh (row : List ℕ) : Type 0 where

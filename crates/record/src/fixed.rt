@@ -1,14 +1,14 @@
 // The record's fixed bytes, which the writer writes and the reader compares, and the lines that they frame.
-use crate::piece::Num;
+use crate::Num;
 use crate::piece::byte_at;
 use crate::piece::fixed_at;
 use crate::piece::told;
 use transform::Kind;
 ghost use mathlib.Core.Path.{_≡_};
 ghost use Prim.Native.Nat.{_+_, _≤_, _<_};
-ghost use lib.ListN.{length, getD};
+ghost use lib.ListN.{length, getD, drop};
 ghost use lib.Dec.{leb};
-ghost use Rattle.record.specs.Answers.{readAt, num, digitOr};
+ghost use Rattle.record.specs.Answers.{readAt, num, digitOr, linesStart};
 ghost use Rattle.record.specs.Record.{header, modeOk, modeLines};
 
 pub(crate) const BANDS: [u8; 6] = *b"bands=";
@@ -22,14 +22,10 @@ const SOME_GIVEN: [u8; 10] = *b"default=0\n";
 
 const ALL_DEFAULT: [u8; 10] = *b"default=1\n";
 
-// The lines that frame a mode: it is put in, and so is a kind's last digit.
-const SHORT_ONE: [u8; 25] = *b"kind=0\nmode=0\norders=one\n";
+// The lines that frame a mode: it is put in, and so are a kind's last digit and its orders. Below 10 they start at byte 1.
+const SHORT: [u8; 26] = *b"\nkind=0\nmode=0\norders=one\n";
 
-const SHORT_TWO: [u8; 25] = *b"kind=0\nmode=0\norders=two\n";
-
-const LONG_ONE: [u8; 26] = *b"kind=10\nmode=0\norders=one\n";
-
-const LONG_TWO: [u8; 26] = *b"kind=10\nmode=0\norders=two\n";
+const LONG: [u8; 26] = *b"kind=10\nmode=0\norders=one\n";
 
 // The first line.
 pub(crate) fn first_line(flag: u64) -> [u8; 10]
@@ -39,33 +35,30 @@ pub(crate) fn first_line(flag: u64) -> [u8; 10]
     if flag == 1 { ALL_DEFAULT } else { SOME_GIVEN }
 }
 
-// The three lines that a kind below 10 has.
-pub(crate) fn short_lines(kind: usize, mode: u64) -> [u8; 25]
-    requires { ⌜ (kind < 10) × (mode < 8) ⌝ }
-    ensures { λ r. ⌜ r ≡ modeLines kind .write mode ⌝ }
+// Where they start among 26 bytes.
+pub(crate) fn lines_start(kind: usize) -> usize
+    ensures { λ r. ⌜ r ≡ linesStart kind ⌝ }
 {
-    let shape = Kind { no: kind };
-    let mut line = SHORT_ONE;
-    if shape.width() != shape.height() {
-        line = SHORT_TWO;
-    }
-    line[5] = 48 + (kind as u8);
-    line[12] = 48 + (mode as u8);
-    line
+    if kind < 10 { 1 } else { 0 }
 }
 
-// The three lines that a kind from 10 on has.
-pub(crate) fn long_lines(kind: usize, mode: u64) -> [u8; 26]
-    requires { ⌜ (10 ≤ kind) × ((kind < 17) × (mode < 8)) ⌝ }
-    ensures { λ r. ⌜ r ≡ modeLines kind .write mode ⌝ }
+// The three lines that each kind has, from there on.
+pub(crate) fn lines(kind: usize, mode: u64) -> [u8; 26]
+    requires { ⌜ (kind < 17) × (mode < 8) ⌝ }
+    ensures { λ r. ⌜ drop (linesStart kind) r ≡ modeLines kind .write mode ⌝ }
 {
     let shape = Kind { no: kind };
-    let mut line = LONG_ONE;
-    if shape.width() != shape.height() {
-        line = LONG_TWO;
+    let mut line = LONG;
+    if kind < 10 {
+        line = SHORT;
     }
-    line[6] = 38 + (kind as u8);
+    line[6] = 48 + (kind % 10) as u8;
     line[13] = 48 + (mode as u8);
+    if shape.width() != shape.height() {
+        line[22] = 116;
+        line[23] = 119;
+        line[24] = 111;
+    }
     line
 }
 
@@ -107,12 +100,8 @@ pub(crate) fn mode_at(s: &[u8], at: usize, kind: usize) -> Num
     requires { ⌜ (at ≤ length (now s)) × (kind < 17) ⌝ }
     ensures { λ r. ⌜ r ≡ num (readAt (modeLines kind) (now (s .entry)) at) ⌝ }
 {
-    if kind < 10 {
-        let m = mode_digit(s, at + 12, kind);
-        let line = short_lines(kind, m);
-        return told(m, fixed_at(s, at, &line));
-    }
-    let m = mode_digit(s, at + 13, kind);
-    let line = long_lines(kind, m);
-    told(m, fixed_at(s, at, &line))
+    let start = lines_start(kind);
+    let m = mode_digit(s, at + 13 - start, kind);
+    let line = lines(kind, m);
+    told(m, fixed_at(s, at, &line[start..]))
 }

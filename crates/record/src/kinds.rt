@@ -1,10 +1,10 @@
 // The lines of a kind, read into its row and its part of the arena.
+use crate::Num;
+use crate::Scan;
 use crate::fixed::BANDS;
 use crate::fixed::NUMBERS;
 use crate::fixed::SAMPLES;
 use crate::fixed::mode_at;
-use crate::piece::Num;
-use crate::piece::Scan;
 use crate::piece::fixed_at;
 use crate::piece::put_u16;
 use crate::piece::samples;
@@ -13,7 +13,7 @@ use transform::Kind;
 ghost use mathlib.Core.Path.{_≡_};
 ghost use mathlib.Core.List.{List};
 ghost use Prim.Native.Nat.{ℕ, _+_, _*_, _≤_, _<_};
-ghost use lib.ListN.{length, getD, set};
+ghost use lib.ListN.{length};
 ghost use lib.Seq.{sets};
 ghost use lib.Dec.{eqb};
 ghost use lib.IntN.{ℤ, pos};
@@ -22,9 +22,9 @@ ghost use Rattle.params.specs.Row.{fixed};
 ghost use Rattle.record.specs.Format.{got, lit, pick};
 ghost use Rattle.record.specs.Text.{bytes};
 ghost use Rattle.record.specs.Number.{signed};
-ghost use Rattle.record.specs.Record.{Entry, line, sampleCount, parts, entry};
+ghost use Rattle.record.specs.Record.{line, sampleCount, parts};
 ghost use Rattle.record.specs.Rows.{Row, rowFormat};
-ghost use Rattle.record.specs.Answers.{readAt, seen, slot, slotName, Fresh, PartsStored, EntryStored, RowStored};
+ghost use Rattle.record.specs.Answers.{readAt, seen, slot, slotName, Fresh, PartsStored, RowStored};
 
 // The name of the line of band counts or, where hex says so, of half floats.
 fn name_at(s: &[u8], at: usize, hex: bool) -> Scan
@@ -48,21 +48,6 @@ fn slots_at(s: &[u8], at: usize, n: usize, hex: bool, out: &mut [u16], place: us
     }
     match name_at(s, at, hex) {
         Scan::Got(p) => slots(s, p, n, hex, out, place),
-        Scan::Bad(p) => Scan::Bad(p),
-    }
-}
-
-// The line of n samples, where there is one, stored from a place on.
-fn samples_at(s: &[u8], at: usize, n: usize, out: &mut [i32], place: usize) -> Scan
-    requires { ⌜ (at ≤ length (now s)) × (place + n < 4294967296) ⌝ }
-    ensures scanned { λ r. ⌜ r ≡ seen (readAt (line (bytes "samples=") (pos 0) signed n) (now (s .entry)) at) ⌝ }
-    ensures stored { λ r. ⌜ ((vs : List ℤ) (q : ℕ) → readAt (line (bytes "samples=") (pos 0) signed n) (now (s .entry)) at ≡ got vs q → now (out .exit) ≡ sets (now (out .entry)) place vs) ⌝ }
-{
-    if n == 0 {
-        return Scan::Got(at);
-    }
-    match fixed_at(s, at, &SAMPLES) {
-        Scan::Got(p) => samples(s, p, n, out, place),
         Scan::Bad(p) => Scan::Bad(p),
     }
 }
@@ -97,16 +82,23 @@ pub(crate) fn part_start(kind: usize, mode: usize) -> usize
     shape.arena_start()
 }
 
-// The samples of a kind, into its part of the arena.
+// The line of a kind's samples, where there is one, into its part of the arena.
 fn part_at(s: &[u8], at: usize, kind: usize, mode: usize, arena: &mut [i32]) -> Scan
     requires { ⌜ at ≤ length (now s) ⌝ }
     ensures scanned { λ r. ⌜ r ≡ seen (readAt (line (bytes "samples=") (pos 0) signed (sampleCount kind mode)) (now (s .entry)) at) ⌝ }
     ensures stored { λ r. ⌜ ((vs : List ℤ) (q : ℕ) → readAt (line (bytes "samples=") (pos 0) signed (sampleCount kind mode)) (now (s .entry)) at ≡ got vs q → now (arena .exit) ≡ sets (now (arena .entry)) (startOf kind) vs) ⌝ }
 {
     let n = sample_count(kind, mode);
-    let shape = Kind { no: kind };
-    let place = shape.arena_start();
-    samples_at(s, at, n, arena, place)
+    if n == 0 {
+        return Scan::Got(at);
+    }
+    match fixed_at(s, at, &SAMPLES) {
+        Scan::Got(p) => {
+            let shape = Kind { no: kind };
+            samples(s, p, n, arena, shape.arena_start())
+        }
+        Scan::Bad(p) => Scan::Bad(p),
+    }
 }
 
 // What follows a kind's mode.
@@ -135,21 +127,6 @@ fn parts_at(
     }
 }
 
-// A kind's entry.
-fn entry_at(s: &[u8], at: usize, kind: usize, row: &mut [u16], arena: &mut [i32]) -> Scan
-    requires { ⌜ (at ≤ length (now s)) × ((kind < 17) × Fresh (now row)) ⌝ }
-    ensures scanned { λ r. ⌜ r ≡ seen (readAt (entry kind) (now (s .entry)) at) ⌝ }
-    ensures stored { λ r. ⌜ ((e : Entry) (q : ℕ) → readAt (entry kind) (now (s .entry)) at ≡ got e q → EntryStored kind (now (row .entry)) (now (row .exit)) (now (arena .entry)) (now (arena .exit)) e) ⌝ }
-{
-    match mode_at(s, at, kind) {
-        Num::Got(m, p) => {
-            put_u16(row, 0, m as u16);
-            parts_at(s, p, kind, m as usize, row, arena)
-        }
-        Num::Bad(p) => Scan::Bad(p),
-    }
-}
-
 // The numbers w from a place on, as far as there is room.
 pub(crate) fn put_numbers(out: &mut [u16], at: usize, w: &[u16])
     requires { ⌜ at + length (now w) < 4294967296 ⌝ }
@@ -169,11 +146,17 @@ pub(crate) fn row_at(s: &[u8], at: usize, kind: usize, rows: &mut [u16], arena: 
     ensures stored { λ r. ⌜ ((p : Row) (q : ℕ) → readAt (rowFormat kind) (now (s .entry)) at ≡ got p q → RowStored kind (now (rows .entry)) (now (rows .exit)) (now (arena .entry)) (now (arena .exit)) p) ⌝ }
 {
     let mut row = [0u16; 128];
-    match entry_at(s, at, kind, &mut row, arena) {
-        Scan::Got(q) => {
-            put_numbers(rows, kind * 128, &row);
-            Scan::Got(q)
+    match mode_at(s, at, kind) {
+        Num::Got(m, p) => {
+            row[0] = m as u16;
+            match parts_at(s, p, kind, m as usize, &mut row, arena) {
+                Scan::Got(q) => {
+                    put_numbers(rows, kind * 128, &row);
+                    Scan::Got(q)
+                }
+                Scan::Bad(q) => Scan::Bad(q),
+            }
         }
-        Scan::Bad(q) => Scan::Bad(q),
+        Num::Bad(p) => Scan::Bad(p),
     }
 }

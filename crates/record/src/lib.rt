@@ -10,3 +10,21 @@ pub use reader::Taken;
 pub use reader::read_record;
 pub use writer::Written;
 pub use writer::write_record;
+
+// A number that was read and the position past it, or the position that refuses.
+pub(crate) enum Num {
+    Got(u64, usize),
+    Bad(usize),
+}
+
+// A sample that was read and the position past it, or the position that refuses.
+pub(crate) enum Sample {
+    Got(i32, usize),
+    Bad(usize),
+}
+
+// The position past what was read, or the position that refuses.
+pub(crate) enum Scan {
+    Got(usize),
+    Bad(usize),
+}
