@@ -2,7 +2,7 @@
 use bitstream::Bits;
 ghost use mathlib.Core.Path.{_≡_};
 ghost use Prim.Native.Nat.{_+_, _-_, _*_, _≤_, _<_};
-ghost use lib.ListN.{length};
+ghost use lib.ListN.{length, replicate};
 ghost use Rattle.params.specs.Row.{on, number, numbers, bandList, bandLists, allowed, entry, lists};
 ghost use Rattle.params.specs.Steps.{hand, slotOf};
 ghost use Rattle.params.specs.Header.{gives, putRow, kindIs, kinds, allDefault, readHeader};
@@ -117,33 +117,22 @@ pub const FIXED: [usize; 8] = [0, 9, 18, 6, 3, 27, 0, 1];
 
 pub const LISTS: [usize; 8] = [0, 0, 0, 1, 1, 2, 1, 0];
 
-pub(crate) struct Entry {
-    step: Step,
-    row: [u16; 128],
-}
-
-fn read_entry(bytes: &[u8], kind: usize, bit: u64) -> Entry
-    ensures { λ r. ⌜ hand (r .step) (r .row) ≡ entry (now (bytes .entry)) kind bit ⌝ }
+// One kind's entry, into a row of zeros.
+fn read_entry(bytes: &[u8], kind: usize, bit: u64, row: &mut [u16; 128]) -> Step
+    requires { ⌜ now row ≡ replicate 128 0 ⌝ }
+    ensures { λ r. ⌜ hand r (now (row .exit)) ≡ entry (now (bytes .entry)) kind bit ⌝ }
 {
-    let mut row = [0u16; 128];
     match bitstream::read_bits(bytes, bit, 3) {
-        Bits::Short => Entry {
-            step: Step::Short { bit },
-            row,
-        },
+        Bits::Short => Step::Short { bit },
         Bits::Value { value, next } => {
             let mode = value as usize;
             if !allows(kind, mode) {
-                return Entry {
-                    step: Step::Mode { bit },
-                    row,
-                };
+                return Step::Mode { bit };
             }
             row[0] = value;
             let first = Step::On { bit: next, slot: 3 };
-            let then = read_numbers(bytes, first, FIXED[mode], &mut row);
-            let step = read_lists(bytes, then, LISTS[mode], &mut row);
-            Entry { step, row }
+            let then = read_numbers(bytes, first, FIXED[mode], row);
+            read_lists(bytes, then, LISTS[mode], row)
         }
     }
 }
@@ -176,14 +165,12 @@ fn read_kind(bytes: &[u8], bit: u64, kind: usize, rows: &mut [u16]) -> Reading
     requires { ⌜ kind * 128 + 128 ≤ length (now rows) ⌝ }
     ensures { λ r. ⌜ gives r (now (rows .exit)) ≡ kindIs kind (now (rows .entry)) (entry (now (bytes .entry)) kind bit) ⌝ }
 {
-    let e = read_entry(bytes, kind, bit);
-    let step = e.step;
-    match step {
+    let mut row = [0u16; 128];
+    match read_entry(bytes, kind, bit, &mut row) {
         Step::Short { bit } => Reading::Short { kind, bit },
         Step::Mode { bit } => Reading::Mode { kind, bit },
         Step::Float { bit } => Reading::Float { kind, bit },
         Step::On { bit, slot: _ } => {
-            let row = e.row;
             put_row(rows, kind, row);
             if row[0] == 7 {
                 return Reading::Raw { kind, next: bit };
