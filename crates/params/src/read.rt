@@ -3,7 +3,7 @@ use bitstream::Bits;
 ghost use mathlib.Core.Path.{_≡_};
 ghost use Prim.Native.Nat.{_+_, _-_, _*_, _≤_, _<_};
 ghost use lib.ListN.{length, replicate};
-ghost use Rattle.params.specs.Row.{on, number, numbers, bandList, bandLists, allowed, entry, lists};
+ghost use Rattle.params.specs.Row.{on, numbers, bandList, bandLists, allowed, entry, lists};
 ghost use Rattle.params.specs.Steps.{hand, slotOf};
 ghost use Rattle.params.specs.Header.{gives, putRow, kindIs, kinds, allDefault, readHeader};
 
@@ -24,41 +24,31 @@ pub(crate) enum Step {
     Float { bit: u64 },
 }
 
-fn read_number(bytes: &[u8], bit: u64, slot: usize, row: &mut [u16; 128]) -> Step
-    requires { ⌜ slot < 128 ⌝ }
-    ensures { λ r. ⌜ hand r (now (row .exit)) ≡ number (now (bytes .entry)) (on bit slot (now (row .entry))) ⌝ }
-    ensures { λ r. ⌜ slotOf r ≤ slot + 1 ⌝ }
+// n numbers, into the slots from one on.
+fn read_numbers(bytes: &[u8], bit: u64, slot: usize, n: usize, row: &mut [u16; 128]) -> Step
+    requires { ⌜ slot + n ≤ 128 ⌝ }
+    ensures { λ r. ⌜ hand r (now (row .exit)) ≡ numbers (now (bytes .entry)) n (on bit slot (now (row .entry))) ⌝ }
+    ensures { λ r. ⌜ slotOf r ≤ slot + n ⌝ }
 {
-    match bitstream::read_bits(bytes, bit, 16) {
-        Bits::Short => Step::Short { bit },
-        Bits::Value { value, next } => {
-            if value / 1024 % 32 == 31 {
-                return Step::Float { bit };
-            }
-            row[slot] = value;
-            Step::On {
-                bit: next,
-                slot: slot + 1,
+    let mut at = bit;
+    let mut i = 0;
+    while i < n {
+        match bitstream::read_bits(bytes, at, 16) {
+            Bits::Short => return Step::Short { bit: at },
+            Bits::Value { value, next } => {
+                if value / 1024 % 32 == 31 {
+                    return Step::Float { bit: at };
+                }
+                row[slot + i] = value;
+                at = next;
+                i += 1;
             }
         }
     }
-}
-
-fn read_numbers(bytes: &[u8], step: Step, n: usize, row: &mut [u16; 128]) -> Step
-    requires { ⌜ slotOf step + n ≤ 128 ⌝ }
-    ensures { λ r. ⌜ hand r (now (row .exit)) ≡ numbers (now (bytes .entry)) n (hand step (now (row .entry))) ⌝ }
-    ensures { λ r. ⌜ slotOf r ≤ slotOf step + n ⌝ }
-{
-    let mut at = step;
-    let mut i = 0;
-    while i < n {
-        let Step::On { bit, slot } = at else {
-            return at;
-        };
-        at = read_number(bytes, bit, slot, row);
-        i += 1;
+    Step::On {
+        bit: at,
+        slot: slot + i,
     }
-    at
 }
 
 fn read_list(bytes: &[u8], step: Step, count_slot: usize, row: &mut [u16; 128]) -> Step
@@ -76,7 +66,7 @@ fn read_list(bytes: &[u8], step: Step, count_slot: usize, row: &mut [u16; 128]) 
             let count = value + 1;
             row[count_slot] = count;
             let n = 3 * (count as usize);
-            read_numbers(bytes, Step::On { bit: next, slot }, n, row)
+            read_numbers(bytes, next, slot, n, row)
         }
     }
 }
@@ -130,8 +120,7 @@ fn read_entry(bytes: &[u8], kind: usize, bit: u64, row: &mut [u16; 128]) -> Step
                 return Step::Mode { bit };
             }
             row[0] = value;
-            let first = Step::On { bit: next, slot: 3 };
-            let then = read_numbers(bytes, first, FIXED[mode], row);
+            let then = read_numbers(bytes, next, 3, FIXED[mode], row);
             read_lists(bytes, then, LISTS[mode], row)
         }
     }
