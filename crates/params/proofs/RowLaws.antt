@@ -37,11 +37,6 @@ unfolding numbers
 numbers-short b zero p = refl
 numbers-short b (suc n) p = numbers-short b n p
 
-pub numbers-mode : (b : List ℕ) (n p : ℕ) → numbers b n (mode p) ≡ mode p
-unfolding numbers
-numbers-mode b zero p = refl
-numbers-mode b (suc n) p = numbers-mode b n p
-
 pub numbers-float : (b : List ℕ) (n p : ℕ) → numbers b n (float p) ≡ float p
 unfolding numbers
 numbers-float b zero p = refl
@@ -89,21 +84,19 @@ lists-none b n i h k =
     let e : n - i ≡ 0 = omega arith in
     rw e
 
+-- a refusal stays
+pub lists-stays : (b : List ℕ) (n i : ℕ) (h : Hand) → ((j : ℕ) → bandList b j h ≡ h) → bandLists b n i h ≡ h
+unfolding bandLists
+lists-stays b zero i h f = refl
+lists-stays b (suc n) i h f = ap (bandLists b n (i + 1)) (f i) ∙ lists-stays b n (i + 1) h f
+
+pub lists-short : (b : List ℕ) (n i p : ℕ) → bandLists b n i (short p) ≡ short p
+unfolding bandList
+lists-short b n i p = lists-stays b n i (short p) (λ j. refl)
+
 -- what a `let .. else` knows of the step in its `else`: it goes on nowhere
 abbrev pub Stopped : Step → Type 0
 Stopped s = (tagOf the-type s ≡ 1) ⊎ ((tagOf the-type s ≡ 2) ⊎ (tagOf the-type s ≡ 3))
-
-pub stopped-slot : (s : Step) → Stopped s → slotOf s ≡ 0
-stopped-slot (step.On p q) t = absurd (⊎-elim (λ e. omega arith) (λ e. ⊎-elim (λ f. omega arith) (λ f. omega arith) e) t)
-stopped-slot (step.Short p) t = refl
-stopped-slot (step.Mode p) t = refl
-stopped-slot (step.Float p) t = refl
-
-pub stopped-numbers : (s : Step) → Stopped s → (b : List ℕ) (n : ℕ) (row : List ℕ) → numbers b n (hand s row) ≡ hand s row
-stopped-numbers (step.On p q) t b n row = absurd (⊎-elim (λ e. omega arith) (λ e. ⊎-elim (λ f. omega arith) (λ f. omega arith) e) t)
-stopped-numbers (step.Short p) t b n row = numbers-short b n p
-stopped-numbers (step.Mode p) t b n row = numbers-mode b n p
-stopped-numbers (step.Float p) t b n row = numbers-float b n p
 
 pub stopped-list : (s : Step) → Stopped s → (b : List ℕ) (i : ℕ) (row : List ℕ) → bandList b i (hand s row) ≡ hand s row
 unfolding bandList
