@@ -15,7 +15,7 @@ use Rattle.params.proofs.read.Step.{the-type}
 use Rattle.params.specs.declared.read.Step.{Step}
 use Rattle.params.specs.declared.read.Step.the-variants as step
 use Rattle.params.specs.Row.{Hand, on, short, mode, float, number, numbers, bandList, bandLists, fixed, lists, allowed, entry}
-use Rattle.params.specs.Steps.{hand, slotOf}
+use Rattle.params.specs.Steps.{hand}
 
 module _ (b : List ℕ) (p s : ℕ) (row : List ℕ) where
   pub number-short : readBits b p 16 ≡ bits.Short → number b (on p s row) ≡ short p

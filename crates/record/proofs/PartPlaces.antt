@@ -25,7 +25,7 @@ use Rattle.record.specs.Number.{isDigit, number, signed}
 use Rattle.record.specs.Half.{half}
 use Rattle.record.specs.Record.{Entry, line, modeOk, numberCount, sampleCount, modeLines, parts, entry}
 use Rattle.record.specs.Rows.{slots, rowOf, entryOf, rowFormat}
-use Rattle.record.specs.Answers.{readAt, num, seen, Fresh, PartsStored, EntryStored, RowStored}
+use Rattle.record.specs.Answers.{readAt, num, seen, Fresh, PartsStored, RowStored}
 use Rattle.record.proofs.Laws.{got-bad}
 use Rattle.record.proofs.HalfLaws.{isTrue}
 use Rattle.record.proofs.Positions.{read-via, read-within, first-refuses, second-refuses, both-read}
@@ -145,6 +145,10 @@ part-fits k m n e = go (ℕ-discrete m 7)
     go (no h) = let z : n ≡ 0 = e ∙ rw (ne-eqb m 7 h) in omega (arith, z, end-le k)
 
 -- ---- row_at: the entry
+
+-- what an entry leaves behind: its mode goes to slot 0
+abbrev pub EntryStored : ℕ → List ℕ → List ℕ → List ℤ → List ℤ → Entry → Type 0
+EntryStored kind row row' arena arena' e = PartsStored kind (set row 0 (e .0)) row' arena arena' (e .1)
 
 -- a mode that was read is below 8
 pub mode-small : (k m : ℕ) → modeLines k .Ok m → m < 8

@@ -55,9 +55,9 @@ pub(crate) fn lines(kind: usize, mode: u64) -> [u8; 26]
     line[6] = 48 + (kind % 10) as u8;
     line[13] = 48 + (mode as u8);
     if shape.width() != shape.height() {
-        line[22] = 116;
-        line[23] = 119;
-        line[24] = 111;
+        line[22] = b't';
+        line[23] = b'w';
+        line[24] = b'o';
     }
     line
 }
