@@ -8,6 +8,7 @@ import re
 
 from check_refused import FN, ROOT, public
 
+
 def edits(crate):
     """The edits of a crate, in the order of the table's columns."""
     found = {edit.stem: edit.read_text().splitlines() for edit in sorted((crate / "must-fail").glob("*.edit"))}

@@ -11,6 +11,9 @@ pub use reader::read_record;
 pub use writer::Written;
 pub use writer::write_record;
 
+// What reading a piece gives. The three stand here and not in `piece`, since the prover's text spells a type's whole path
+// wherever it names the type.
+
 // A number that was read and the position past it, or the position that refuses.
 pub(crate) enum Num {
     Got(u64, usize),
