@@ -37,6 +37,6 @@ pub extern "C" fn dequant_read_header(
     if reply.len() != 3 {
         return 1;
     }
-    let found = params::parse_at(header, bit, kind, rows);
+    let found = params::read_header(header, bit, kind, rows);
     say(said_reading(found), reply)
 }

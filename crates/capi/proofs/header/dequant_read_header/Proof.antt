@@ -16,8 +16,8 @@ returns c =
     let other = c .if1 .taken in
     (returned-other (a .reply .now) (replyOf (o .answer)) other, held-other (a .reply .now) (replyOf (o .answer)) other, kept-other (a .reply .now) (o .rows) (a .rows .now) other)
 
-parse-at-requires : tie.Need-parse-at-requires
-parse-at-requires c κs = search needs
+read-header-requires : tie.Need-read-header-requires
+read-header-requires c κs = search needs
 
 said-reading-requires : tie.Need-said-reading-requires
 said-reading-requires c κs = search needs
@@ -36,7 +36,7 @@ returns-2 c =
     let a = c .before .before .before .before .before .before .before .before .before .before .before .before .before .args in
     let o = readHeader (a .header .now) (a .bit) (a .kind) (a .rows .now) in
     let right = c .before .before .before .before .before .before .before .before .before .if1 .left in
-    let read = c .before .before .before .before .before .before .before .parse-at .ensures in
+    let read = c .before .before .before .before .before .before .before .read-header .ensures in
     let s = c .before .before .before .before .said-reading .result in
     let is = c .before .before .before .before .said-reading .ensures ∙ ap (λ (f : Reading). saidOf (replyOf f)) (read .0) in
     let told = c .before .before .say .ensures in
@@ -47,7 +47,7 @@ dequant-read-header-spec =
     tie.close
     (tie.spec
     returns
-    parse-at-requires
+    read-header-requires
     said-reading-requires
     say-requires
     same-length
