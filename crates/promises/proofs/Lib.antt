@@ -45,3 +45,7 @@ pub mod RecordRows
 pub mod RecordBehind
 pub mod RecordText
 pub mod RecordExamples
+pub mod ReadLeaves
+pub mod ReadPasses
+pub mod AnyReading
+pub mod RecordShort

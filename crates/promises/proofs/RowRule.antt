@@ -55,7 +55,7 @@ sized kind m row fs (two m' c d a x y l o f g) h s =
       ),
     )
 
-short : (kind m : ℕ) (row : List ℕ) (fs : List Field) → Written kind row (bits 3 m ∷ fs) → 1 + span (bits 3 m ∷ fs) < 2 ^ 64
+short : (kind m : ℕ) (row : List ℕ) (fs : List Field) → Written kind row (bits 3 m ∷ fs) → 64 + span (bits 3 m ∷ fs) < 2 ^ 64
 short kind m row fs (plain m' a l o) = omega (arith, span-numbers a, shape-fits m', o .count)
 short kind m row fs (one m' c a x l o f) =
     omega (arith, span-append (numbersOf a) (bits 4 (c - 1) ∷ numbersOf x), span-numbers a, span-numbers x, shape-fits m', o .count, f .count, f .few)
@@ -63,7 +63,7 @@ short kind m row fs (two m' c d a x y l o f g) =
     omega (arith, span-append (numbersOf a) (bits 4 (c - 1) ∷ (numbersOf x ++ bits 4 (d - 1) ∷ numbersOf y)), span-append (numbersOf x) (bits 4 (d - 1) ∷ numbersOf y), span-numbers a, span-numbers x, span-numbers y, shape-fits m', o .count, f .count, f .few, g .count, g .few)
 
 -- what passes has fields that bits can spell
-pub ok-fields : (kind : ℕ) (row : List ℕ) → Small row → entryRow kind row ≡ true → (fs : List Field) × Written kind row fs × Sized fs × (1 + span fs < 2 ^ 64)
+pub ok-fields : (kind : ℕ) (row : List ℕ) → Small row → entryRow kind row ≡ true → (fs : List Field) × Written kind row fs × Sized fs × (64 + span fs < 2 ^ 64)
 ok-fields kind row s e =
     let (m, fs, w, h) = ok-written kind row e in
     (bits 3 m ∷ fs, w, sized kind m row fs w h s, short kind m row fs w)
