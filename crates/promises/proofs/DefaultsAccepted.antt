@@ -9,7 +9,7 @@ use borrow.Author.Tests.{eq-eqb, le-leb}
 use lib.Dec.{T, leb, ltb, eqb, leb→le, lit<}
 use lib.IntN.{ℤ}
 use lib.ListN.{length, getD, take, drop, replicate, length-append}
-use lib.Seq.{take-at, drop-at}
+use lib.Seq.{take-at, drop-at, drop-drop}
 use lib.Ieee.{Float, nan, binary32, fits, mul, add, sub, div, lt}
 use lib.Ieee.Exact.{HasValue}
 use lib.Ieee.Fits.{and-l, and-r}
@@ -37,9 +37,10 @@ use Rattle.dequant.specs.Set.{setLent, expandSet}
 use Rattle.params.proofs.RawLaws.{no-samples}
 use Rattle.dequant.proofs.Lent.{by-samples as set-by-samples}
 use Rattle.dequant.proofs.Kindwise.{mode-at}
+use Rattle.promises.proofs.RowRule.{zeroRow, zero-entry}
 use Rattle.promises.proofs.RowsChecked.{rows-pass}
 use Rattle.promises.proofs.Accepts.{set-accepts}
-use Rattle.promises.proofs.RawOnes.{many, many-length, many-row, drop-more}
+use Rattle.promises.proofs.RawOnes.{many, many-length, many-row}
 use Rattle.promises.proofs.RowNumbers.{listNumber, ownList, at-place, place, inside, defaults-room}
 use Rattle.promises.proofs.Tame.{used, Tame, tame-accepts}
 
@@ -209,11 +210,8 @@ pub default-accepts : (k : ℕ) (row : List ℕ) (zs : List ℤ) → k < 17 → 
 default-accepts k row zs h e =
     tame-accepts k row zs (subst (λ (n : Numbers). Shaped n k) (sym (default-numbers row k e)) (default-shaped k h)) (subst Tame (sym (default-numbers row k e)) (default-tame k h))
 
-abbrev pub zeroRow : List ℕ
-zeroRow = replicate 128 0
-
 zero-allowed : (k : ℕ) → k < 17 → rowAllowed k zeroRow ≡ true
-zero-allowed k h = sym (allowed-entry k zeroRow (le-of-suc-le-suc h) (unfold entryRow in refl))
+zero-allowed k h = sym (allowed-entry k zeroRow (le-of-suc-le-suc h) (zero-entry k))
 
 -- the default of every kind by itself, lent no samples and two outputs of its places, answers DONE
 pub default-done : (k : ℕ) → k < 17 → replyOf (expandAnswer k zeroRow [] (placesOf k) (placesOf k)) ≡ 0 ∷ []
@@ -238,7 +236,7 @@ headed first = first ++ many 16 zeroRow
 module _ (first : List ℕ) (long : length first ≡ 128) where
   headed-row : (k : ℕ) → k < 16 → rowAt (headed first) (suc k) ≡ zeroRow
   headed-row k h =
-      ap (take 128) (ap (λ (a : ℕ). drop a (first ++ many 16 zeroRow)) (next k) ∙ drop-more 128 (k * 128) (first ++ many 16 zeroRow) ∙ ap (drop (k * 128)) (drop-at first (many 16 zeroRow) 128 long))
+      ap (take 128) (ap (λ (a : ℕ). drop a (first ++ many 16 zeroRow)) (next k) ∙ sym (drop-drop (k * 128) 128 (first ++ many 16 zeroRow)) ∙ ap (drop (k * 128)) (drop-at first (many 16 zeroRow) 128 long))
       ∙ many-row 16 k zeroRow refl h
     where
       next : (k : ℕ) → suc k * 128 ≡ 128 + k * 128

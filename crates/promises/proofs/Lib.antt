@@ -47,5 +47,4 @@ pub mod RecordText
 pub mod RecordExamples
 pub mod ReadLeaves
 pub mod ReadPasses
-pub mod AnyReading
 pub mod RecordShort

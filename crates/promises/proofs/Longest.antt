@@ -61,12 +61,16 @@ unfolding bandLists
 lists-bits b zero i h = omega arith
 lists-bits b (suc n) i h = omega (arith, lists-bits b n (i + 1) (bandList b i h), list-bits b i h)
 
--- how long a kind's entry can be
-abbrev pub longest : ℕ → ℕ
-longest kind = cond (leb kind 3 || (eqb kind 9 || eqb kind 10)) 1979 775
+-- the kinds that modes 1 to 5 are for
+abbrev pub rich : ℕ → Bool
+rich kind = leb kind 3 || (eqb kind 9 || eqb kind 10)
 
-pub shape-bits : (kind m : ℕ) → allowed kind m ≡ true → 3 + 16 * fixed m + 772 * lists m ≤ longest kind
-shape-bits kind m = go (leb kind 3 || (eqb kind 9 || eqb kind 10)) m
+-- how long a kind's entry can be
+abbrev longest : ℕ → ℕ
+longest kind = cond (rich kind) 1979 775
+
+pub shape-bits : (kind m : ℕ) → allowed kind m ≡ true → 3 + 16 * fixed m + 772 * lists m ≤ cond (rich kind) 1979 775
+shape-bits kind m = go (rich kind) m
   where
     go : (t : Bool) (m : ℕ) → not (leb 1 m && leb m 5) || t ≡ true → 3 + 16 * fixed m + 772 * lists m ≤ cond t 1979 775
     go true zero e = lit≤ tt

@@ -1,11 +1,11 @@
 -- The bound of `longest-header` is reached: 17 entries with as many numbers as their kinds allow, all 0, take 20,400 bits with the flag.
 use mathlib.Core.Path.{_≡_, refl, sym, ap, _∙_, subst}
-use mathlib.Core.Bool.{Bool, true, false, _||_, cond}
+use mathlib.Core.Bool.{Bool, true, false, cond}
 use mathlib.Core.List.{List, [], _∷_, _++_}
 use Prim.Native.Nat.{ℕ, zero, suc, _+_, _*_, _^_, _<_}
 use native.Mathlib.Omega.{arith}
 use lib.ListN.{length, getD, replicate}
-use lib.Dec.{T, leb, eqb, lit≤}
+use lib.Dec.{T, eqb, lit≤}
 use lib.Pow.{areBytes}
 use Rattle.bitstream.proofs.Bytes.{bytesOf, bytesOf-bytes}
 use Rattle.params.specs.declared.read.Reading.the-variants.{Done, Raw}
@@ -13,9 +13,10 @@ use Rattle.params.specs.Header.{replyOf, Outcome, gives, putRow, kindIs, after,
 use Rattle.params.proofs.Written.{Field, bits, span, Spells, Sized, numbersOf, Fine, rowOf, Bands, Written, one, two}
 use Rattle.promises.proofs.Shape.{spells-left, spells-right, span-append}
 use Rattle.params.proofs.SetLaws.{header-all}
+use Rattle.promises.proofs.Longest.{rich}
 use Rattle.promises.proofs.ReadWritten.{entry-spelt}
 use Rattle.promises.proofs.Readable.{numberOf, spelt}
-use Rattle.promises.proofs.RowRule.{Small, sized-numbers, sized-append}
+use Rattle.promises.proofs.RowRule.{small-same, sized-numbers, sized-append}
 
 -- ---- a header whose entries are all written rows, none raw, is read to its end
 
@@ -51,10 +52,6 @@ fine-zeros : (n : ℕ) → Fine (replicate n 0)
 fine-zeros zero = tt
 fine-zeros (suc n) = (refl, fine-zeros n)
 
-small-zeros : (n : ℕ) → Small (replicate n 0)
-small-zeros zero = tt
-small-zeros (suc n) = (lit≤ tt, small-zeros n)
-
 bands-16 : Bands 16 (replicate 48 0)
 bands-16 = record { some = lit≤ tt; few = lit≤ tt; count = refl; fine = fine-zeros 48 }
 
@@ -67,10 +64,7 @@ abbrev fieldsBy : Bool → List Field
 fieldsBy true = bits 3 5 ∷ (numbersOf (replicate 27 0) ++ bits 4 15 ∷ (numbersOf (replicate 48 0) ++ bits 4 15 ∷ numbersOf (replicate 48 0)))
 fieldsBy false = bits 3 6 ∷ (numbersOf [] ++ bits 4 15 ∷ numbersOf (replicate 48 0))
 
-abbrev most : ℕ → Bool
-most kind = leb kind 3 || (eqb kind 9 || eqb kind 10)
-
-written-by : (kind : ℕ) (t : Bool) → most kind ≡ t → Written kind (rowBy t) (fieldsBy t)
+written-by : (kind : ℕ) (t : Bool) → rich kind ≡ t → Written kind (rowBy t) (fieldsBy t)
 written-by kind true e = two 5 16 16 (replicate 27 0) (replicate 48 0) (replicate 48 0) refl (record { allows = e; count = refl; fine = fine-zeros 27 }) bands-16 bands-16
 written-by kind false e = one 6 16 [] (replicate 48 0) refl (record { allows = refl; count = refl; fine = tt }) bands-16
 
@@ -80,23 +74,23 @@ not-raw false = refl
 
 sized-by : (t : Bool) → Sized (fieldsBy t)
 sized-by true =
-    let n : (k : ℕ) → Sized (numbersOf (replicate k 0)) = λ k. sized-numbers (replicate k 0) (small-zeros k) in
+    let n : (k : ℕ) → Sized (numbersOf (replicate k 0)) = λ k. sized-numbers (replicate k 0) (small-same k 0 (lit≤ tt)) in
     let last : Sized (bits 4 15 ∷ numbersOf (replicate 48 0)) = (lit≤ tt, lit≤ tt, n 48) in
     let lists : Sized (bits 4 15 ∷ (numbersOf (replicate 48 0) ++ bits 4 15 ∷ numbersOf (replicate 48 0))) = (lit≤ tt, lit≤ tt, sized-append (numbersOf (replicate 48 0)) (bits 4 15 ∷ numbersOf (replicate 48 0)) (n 48) last) in
     (lit≤ tt, lit≤ tt, sized-append (numbersOf (replicate 27 0)) (bits 4 15 ∷ (numbersOf (replicate 48 0) ++ bits 4 15 ∷ numbersOf (replicate 48 0))) (n 27) lists)
-sized-by false = (lit≤ tt, lit≤ tt, (lit≤ tt, lit≤ tt, sized-numbers (replicate 48 0) (small-zeros 48)))
+sized-by false = (lit≤ tt, lit≤ tt, (lit≤ tt, lit≤ tt, sized-numbers (replicate 48 0) (small-same 48 0 (lit≤ tt))))
 
-sized-from : (n kind : ℕ) → Sized (fieldsFrom (λ k. fieldsBy (most k)) n kind)
+sized-from : (n kind : ℕ) → Sized (fieldsFrom (λ k. fieldsBy (rich k)) n kind)
 sized-from zero kind = tt
-sized-from (suc n) kind = sized-append (fieldsBy (most kind)) _ (sized-by (most kind)) (sized-from n (kind + 1))
+sized-from (suc n) kind = sized-append (fieldsBy (rich kind)) _ (sized-by (rich kind)) (sized-from n (kind + 1))
 
 pub longestBytes : List ℕ
-longestBytes = bytesOf 2550 (numberOf (bits 1 0 ∷ fieldsFrom (λ k. fieldsBy (most k)) 17 0))
+longestBytes = bytesOf 2550 (numberOf (bits 1 0 ∷ fieldsFrom (λ k. fieldsBy (rich k)) 17 0))
 
 -- these 2,550 bytes are a header of 20,400 bits
 pub longest-reached : (rows : List ℕ) → length rows ≡ 2176 → T (areBytes longestBytes) × (replyOf (readHeader longestBytes 0 0 rows .answer) ≡ 0 ∷ 20400 ∷ [])
 unfolding longestBytes
 longest-reached rows l = (
-  bytesOf-bytes 2550 (numberOf (bits 1 0 ∷ fieldsFrom (λ k. fieldsBy (most k)) 17 0)),
-  ap replyOf (header-spelt longestBytes (λ k. rowBy (most k)) (λ k. fieldsBy (most k)) (λ k. written-by k (most k) refl) (λ k. not-raw (most k)) 2550 refl (lit≤ tt) refl (sized-from 17 0) rows l),
+  bytesOf-bytes 2550 (numberOf (bits 1 0 ∷ fieldsFrom (λ k. fieldsBy (rich k)) 17 0)),
+  ap replyOf (header-spelt longestBytes (λ k. rowBy (rich k)) (λ k. fieldsBy (rich k)) (λ k. written-by k (rich k) refl) (λ k. not-raw (rich k)) 2550 refl (lit≤ tt) refl (sized-from 17 0) rows l),
 )

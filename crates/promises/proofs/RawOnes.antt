@@ -7,7 +7,7 @@ use native.Mathlib.Nat.{le-of-eq, le-of-suc-le-suc, not-suc-le-zero, lt-of-lt-of
 use native.Mathlib.Omega.{arith}
 use lib.IntN.{ℤ, pos}
 use lib.ListN.{length, getD, take, drop, replicate, length-append, length-replicate, getD-replicate}
-use lib.Seq.{take-at, drop-at, getD-take, getD-drop}
+use lib.Seq.{take-at, drop-at, drop-drop, getD-take, getD-drop}
 use lib.Ieee.{round, mul, ofInt, le, ne}
 use Rattle.transform.specs.Kinds.{placesOf, startOf, part}
 use Rattle.transform.proofs.Laws.{end-le}
@@ -49,18 +49,12 @@ many-length (suc n) row l = length-append row (many n row) ∙ ap (λ (a : ℕ).
     sum : (n : ℕ) → 128 + n * 128 ≡ suc n * 128
     sum n = omega arith
 
--- dropping in two steps
-pub drop-more : (a b : ℕ) (l : List ℕ) → drop (a + b) l ≡ drop b (drop a l)
-drop-more zero b l = ap (λ (n : ℕ). drop n l) (native.Mathlib.Nat.zero-add b)
-drop-more (suc a) b [] = ap (λ (n : ℕ). drop n []) (native.Mathlib.Nat.suc-add a b) ∙ sym (lib.Seq.drop-nil b)
-drop-more (suc a) b (x ∷ l) = ap (λ (n : ℕ). drop n (x ∷ l)) (native.Mathlib.Nat.suc-add a b) ∙ drop-more a b l
-
 -- each of them is that row
 pub many-row : (n k : ℕ) (row : List ℕ) → length row ≡ 128 → k < n → rowAt (many n row) k ≡ row
 many-row zero k row l h = absurd (not-suc-le-zero h)
 many-row (suc n) zero row l h = take-at row (many n row) 128 l
 many-row (suc n) (suc k) row l h =
-    ap (take 128) (ap (λ (a : ℕ). drop a (row ++ many n row)) (next k) ∙ drop-more 128 (k * 128) (row ++ many n row) ∙ ap (drop (k * 128)) (drop-at row (many n row) 128 l))
+    ap (take 128) (ap (λ (a : ℕ). drop a (row ++ many n row)) (next k) ∙ sym (drop-drop (k * 128) 128 (row ++ many n row)) ∙ ap (drop (k * 128)) (drop-at row (many n row) 128 l))
     ∙ many-row n k row l (le-of-suc-le-suc h)
   where
     next : (k : ℕ) → suc k * 128 ≡ 128 + k * 128

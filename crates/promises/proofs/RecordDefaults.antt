@@ -22,9 +22,9 @@ use Rattle.record.specs.Record.{numberCount, sampleCount}
 use Rattle.record.specs.Rows.{Row, rowFormat}
 use Rattle.record.specs.Description.{Each}
 use Rattle.record.specs.Stored.{Checked}
-use Rattle.record.proofs.FlatLaws.{row-good}
 use Rattle.record.proofs.OkLaws.{each-take, each-drop, entry-ok}
 use Rattle.record.proofs.SetStores.{row-first, lent-rows}
+use Rattle.promises.proofs.RowRule.{entry-flag}
 
 -- a row of mode 0 is all 0
 abbrev made : List ℕ → ℕ → List ℕ
@@ -85,9 +85,7 @@ module _ (rows : List ℕ) (samples : List ℤ) (a : Checked rows samples) (e : 
   first-flag = go (entryRow 0 (rowAt rows 0)) refl
     where
       go : (b : Bool) → entryRow 0 (rowAt rows 0) ≡ b → flagRow (rowAt rows 0) ≡ true
-      go true q =
-          let z : getD (rowAt rows 0) 126 0 ≡ 0 = row-good 0 (rowAt rows 0, []) (row-ok 0 (rowAt rows 0) q (bits-here 0) (first-zero 0 (omega arith))) .1 in
-          absurd (omega (arith, z, row-first rows 0 126 (omega arith), e))
+      go true q = absurd (omega (arith, entry-flag 0 (rowAt rows 0) q, row-first rows 0 126 (omega arith), e))
       go false q = rw q at (and-true (ltb 0 17) (entryRow 0 (rowAt rows 0) || (eqb 0 0 && flagRow (rowAt rows 0))) (passes 0 (omega arith)) .1)
 
   first-row : (j : ℕ) → j < 128 → (j ≡ 126 → ⊥) → getD (rowAt rows 0) j 0 ≡ 0

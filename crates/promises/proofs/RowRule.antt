@@ -1,29 +1,35 @@
 -- `entryRow` passes exactly the rows that a kind's entry is read into: what passes has fields that bits can spell, and what is read passes.
-use mathlib.Core.Path.{_≡_}
+use mathlib.Core.Path.{_≡_, refl, sym, ap, _∙_}
 use mathlib.Core.Bool.{true}
 use mathlib.Core.List.{List, [], _∷_, _++_}
-use Prim.Native.Nat.{ℕ, _+_, _-_, _^_, _≤_, _<_}
+use Prim.Native.Nat.{ℕ, zero, suc, _+_, _-_, _^_, _≤_, _<_}
 use native.Mathlib.Omega.{arith}
-use lib.ListN.{length}
-use lib.Dec.{lit≤}
-use Rattle.params.proofs.Written.{Field, bits, span, Sized, numbersOf, Written, plain, one, two}
+use lib.ListN.{length, getD, replicate, length-append, getD-replicate}
+use lib.Seq.{getD-append-add}
+use lib.Dec.{lit≤, lit<}
+use Rattle.params.proofs.Written.{Field, bits, span, Sized, numbersOf, rowOf, Written, plain, one, two}
 use Rattle.params.specs.Allowed.{entryRow}
 use Rattle.params.proofs.RowLaws.{shape-fits}
 use Rattle.promises.proofs.Shape.{span-append, span-numbers}
 use Rattle.params.proofs.AllowedLaws.{written-ok, ok-written, ok-long}
 use Rattle.params.specs.Row.{on, entry}
+use Rattle.record.specs.Description.{Each}
+use Rattle.record.proofs.FlatLaws.{fixed-small}
 use Rattle.promises.proofs.Readable.{read-written}
 
 -- every element is a 16-bit number, as in a slice of u16
 abbrev pub Small : List ℕ → Type 0
-Small [] = Unit {0}
-Small (v ∷ vs) = (v < 65536) × Small vs
+Small = Each (λ v. v < 65536)
 
-pub small-left : (a x : List ℕ) → Small (a ++ x) → Small a
+pub small-same : (n v : ℕ) → v < 65536 → Small (replicate n v)
+small-same zero v h = tt
+small-same (suc n) v h = (h, small-same n v h)
+
+small-left : (a x : List ℕ) → Small (a ++ x) → Small a
 small-left [] x s = tt
 small-left (v ∷ a) x s = (s .0, small-left a x (s .1))
 
-pub small-right : (a x : List ℕ) → Small (a ++ x) → Small x
+small-right : (a x : List ℕ) → Small (a ++ x) → Small x
 small-right [] x s = s
 small-right (v ∷ a) x s = small-right a x (s .1)
 
@@ -82,3 +88,30 @@ entry-ok b kind p q s row e =
 -- and has 128 numbers
 pub entry-long : (b : List ℕ) (kind p q s : ℕ) (row : List ℕ) → entry b kind p ≡ on q s row → length row ≡ 128
 entry-long b kind p q s row e = ok-long kind row (entry-ok b kind p q s row e)
+
+-- ---- slot 126 of a row that an entry writes is 0
+behind-zero : (m c d : ℕ) (vs : List ℕ) → length vs ≤ 123 → getD (rowOf m c d vs) 126 0 ≡ 0
+behind-zero m c d vs h =
+    let q : length vs + (123 - length vs) ≡ 123 = omega arith in
+    ap (λ (i : ℕ). getD (vs ++ replicate (125 - length vs) 0) i 0) (sym q)
+    ∙ getD-append-add vs (replicate (125 - length vs) 0) (123 - length vs) 0
+    ∙ getD-replicate (125 - length vs) (123 - length vs) 0 0 (omega arith)
+
+written-flag : (kind : ℕ) (row : List ℕ) (fs : List Field) → Written kind row fs → getD row 126 0 ≡ 0
+written-flag kind row fs (plain m a l o) = behind-zero m 0 0 a (omega (arith, fixed-small m, o .count))
+written-flag kind row fs (one m c a x l o f) = behind-zero m c 0 (a ++ x) (omega (arith, fixed-small m, length-append a x, o .count, f .count, f .few))
+written-flag kind row fs (two m c d a x y l o f g) =
+    behind-zero m c d ((a ++ x) ++ y) (omega (arith, fixed-small m, length-append (a ++ x) y, length-append a x, o .count, f .count, f .few, g .count, g .few))
+
+pub entry-flag : (kind : ℕ) (row : List ℕ) → entryRow kind row ≡ true → getD row 126 0 ≡ 0
+entry-flag kind row e = let (m, fs, w, h) = ok-written kind row e in written-flag kind row (bits 3 m ∷ fs) w
+
+-- ---- a row of zeros is one, for every kind: an entry of mode 0 writes it
+abbrev pub zeroRow : List ℕ
+zeroRow = replicate 128 0
+
+pub zero-written : (kind : ℕ) → Written kind zeroRow (bits 3 0 ∷ [])
+zero-written kind = plain 0 [] refl (record { allows = refl; count = refl; fine = tt })
+
+pub zero-entry : (kind : ℕ) → entryRow kind zeroRow ≡ true
+zero-entry kind = written-ok kind 0 zeroRow [] (zero-written kind) (lit< tt)
