@@ -42,7 +42,7 @@ use Rattle.promises.proofs.RowsChecked.{rows-pass}
 use Rattle.promises.proofs.Accepts.{set-accepts}
 use Rattle.promises.proofs.RawOnes.{many, many-length, many-row}
 use Rattle.promises.proofs.RowNumbers.{listNumber, ownList, at-place, place, inside, defaults-room}
-use Rattle.promises.proofs.Tame.{used, Tame, tame-accepts}
+use Rattle.promises.proofs.Tame.{used, Tame, tame-passes}
 
 -- ---- the test: an f32 from 2 ^ -24 to 2 ^ 40; and one from 1/2 to 2
 abbrev spans : ℕ → ℕ → Float → Bool
@@ -208,7 +208,7 @@ default-numbers row k e = ap (λ (m : ℕ). cond (eqb m 0) (defaultNumbers k) (r
 -- a row of mode 0: BAND and WEIGHT let every kind's default pass, whatever samples are lent
 pub default-accepts : (k : ℕ) (row : List ℕ) (zs : List ℤ) → k < 17 → getD row 0 0 ≡ 0 → replyOf (kindAnswer row zs k) ≡ 0 ∷ []
 default-accepts k row zs h e =
-    tame-accepts k row zs (subst (λ (n : Numbers). Shaped n k) (sym (default-numbers row k e)) (default-shaped k h)) (subst Tame (sym (default-numbers row k e)) (default-tame k h))
+    tame-passes k row zs (subst (λ (n : Numbers). Shaped n k) (sym (default-numbers row k e)) (default-shaped k h)) (subst Tame (sym (default-numbers row k e)) (default-tame k h))
 
 zero-allowed : (k : ℕ) → k < 17 → rowAllowed k zeroRow ≡ true
 zero-allowed k h = sym (allowed-entry k zeroRow (le-of-suc-le-suc h) (zero-entry k))

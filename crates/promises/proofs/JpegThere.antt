@@ -21,7 +21,7 @@ use Rattle.dequant.proofs.JpegLaws.{by-samples}
 use Rattle.dequant.proofs.Lent.{by-samples as set-by-samples}
 use Rattle.dequant.proofs.Kindwise.{part-length, mode-at}
 use Rattle.promises.proofs.RowsChecked.{rows-pass}
-use Rattle.promises.proofs.Accepts.{raw-accepts, set-accepts}
+use Rattle.promises.proofs.Accepts.{raw-passes, set-accepts}
 use Rattle.promises.proofs.RawOnes.{rawRow, raw-allowed, part-at}
 use Rattle.promises.proofs.DefaultsAccepted.{headed, headed-first, headed-mode, headed-allowed, headed-length, default-accepts}
 use Rattle.promises.proofs.JpegNumbers.{Asked, p8, p9}
@@ -68,7 +68,7 @@ set-of-16 zs l f =
     each : (k : ℕ) → k < 17 → replyOf (kindAnswer (rowAt (headed (rawRow 0x1004)) k) (part k zs) k) ≡ 0 ∷ []
     each zero h =
         ap (λ (row : List ℕ). replyOf (kindAnswer row (part 0 zs) 0)) (headed-first (rawRow 0x1004) refl)
-        ∙ raw-accepts 0 (rawRow 0x1004) (part 0 zs) (raw-allowed 0 0x1004 h refl) refl (part-length 0 zs l) (λ i g. ap (λ (z : ℤ). refused (weightOf (half 0x1004) z)) (part-at 0 i (pos 16) zs f g) ∙ fine-16)
+        ∙ raw-passes 0 (rawRow 0x1004) (part 0 zs) (raw-allowed 0 0x1004 h refl) refl (part-length 0 zs l) (λ i g. ap (λ (z : ℤ). refused (weightOf (half 0x1004) z)) (part-at 0 i (pos 16) zs f g) ∙ fine-16)
     each (suc k) h = default-accepts (suc k) (rowAt (headed (rawRow 0x1004)) (suc k)) (part (suc k) zs) h (mode-at (headed (rawRow 0x1004)) (suc k) ∙ headed-mode (rawRow 0x1004) refl k h)
 
 same-samples : (n : ℕ) → n ≡ 394752 → replyOf (expandSet (headed (rawRow 0x1004)) (replicate n (pos 16)) 394752 394752) ≡ 0 ∷ []

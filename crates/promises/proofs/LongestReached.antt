@@ -7,7 +7,7 @@ use native.Mathlib.Omega.{arith}
 use lib.ListN.{length, getD, replicate}
 use lib.Dec.{T, eqb, lit≤}
 use lib.Pow.{areBytes}
-use Rattle.bitstream.proofs.Bytes.{bytesOf, bytesOf-bytes}
+use Rattle.bitstream.proofs.Bytes.{bytesOf, length-bytesOf, bytesOf-bytes}
 use Rattle.params.specs.declared.read.Reading.the-variants.{Done, Raw}
 use Rattle.params.specs.Header.{replyOf, Outcome, gives, putRow, kindIs, after, kinds, readHeader}
 use Rattle.params.proofs.Written.{Field, bits, span, Spells, Sized, numbersOf, Fine, rowOf, Bands, Written, one, two}
@@ -87,10 +87,11 @@ sized-from (suc n) kind = sized-append (fieldsBy (rich kind)) _ (sized-by (rich 
 pub longestBytes : List ℕ
 longestBytes = bytesOf 2550 (numberOf (bits 1 0 ∷ fieldsFrom (λ k. fieldsBy (rich k)) 17 0))
 
--- these 2,550 bytes are a header of 20,400 bits
-pub longest-reached : (rows : List ℕ) → length rows ≡ 2176 → T (areBytes longestBytes) × (replyOf (readHeader longestBytes 0 0 rows .answer) ≡ 0 ∷ 20400 ∷ [])
+-- they are 2,550 bytes, and a header of 20,400 bits
+pub longest-reached : (rows : List ℕ) → length rows ≡ 2176 → (length longestBytes ≡ 2550) × T (areBytes longestBytes) × (replyOf (readHeader longestBytes 0 0 rows .answer) ≡ 0 ∷ 20400 ∷ [])
 unfolding longestBytes
 longest-reached rows l = (
+  length-bytesOf 2550 (numberOf (bits 1 0 ∷ fieldsFrom (λ k. fieldsBy (rich k)) 17 0)),
   bytesOf-bytes 2550 (numberOf (bits 1 0 ∷ fieldsFrom (λ k. fieldsBy (rich k)) 17 0)),
   ap replyOf (header-spelt longestBytes (λ k. rowBy (rich k)) (λ k. fieldsBy (rich k)) (λ k. written-by k (rich k) refl) (λ k. not-raw (rich k)) 2550 refl (lit≤ tt) refl (sized-from 17 0) rows l),
 )

@@ -21,7 +21,7 @@ use Rattle.params.proofs.RawLaws.{all-samples}
 use Rattle.dequant.proofs.Lent.{by-samples}
 use Rattle.dequant.proofs.Kindwise.{part-length}
 use Rattle.promises.proofs.RowsChecked.{rows-pass}
-use Rattle.promises.proofs.Accepts.{raw-accepts, alone, set-accepts}
+use Rattle.promises.proofs.Accepts.{raw-passes, lent-alone, accepts, set-accepts}
 
 -- a raw row of a denominator
 abbrev pub rawRow : ℕ → List ℕ
@@ -70,13 +70,14 @@ one-fine = refl
 
 -- any samples that are all 1
 ones-accepted : (k : ℕ) (zs : List ℤ) → k < 17 → length zs ≡ placesOf k → ((i : ℕ) → i < placesOf k → getD zs i (pos 0) ≡ pos 1) → replyOf (kindAnswer oneRow zs k) ≡ 0 ∷ []
-ones-accepted k zs h l f = raw-accepts k oneRow zs (one-allowed k h) refl l (λ i g. ap (λ (z : ℤ). refused (weightOf (half 0x3c00) z)) (f i g) ∙ one-fine)
+ones-accepted k zs h l f = raw-passes k oneRow zs (one-allowed k h) refl l (λ i g. ap (λ (z : ℤ). refused (weightOf (half 0x3c00) z)) (f i g) ∙ one-fine)
 
 -- each kind by itself, lent its row, 3 x width x height samples of 1 and two outputs of that length, answers DONE
 pub ones-done : (k : ℕ) → k < 17 → replyOf (expandAnswer k oneRow (replicate (placesOf k) (pos 1)) (placesOf k) (placesOf k)) ≡ 0 ∷ []
 ones-done k h =
-    ap replyOf (alone k oneRow (replicate (placesOf k) (pos 1)) h refl (length-replicate (placesOf k) (pos 1)) (one-allowed k h))
-    ∙ ones-accepted k (replicate (placesOf k) (pos 1)) h (length-replicate (placesOf k) (pos 1)) (λ i g. getD-replicate (placesOf k) i (pos 1) (pos 0) g)
+    let zs : List ℤ = replicate (placesOf k) (pos 1) in
+    let l : length zs ≡ placesOf k = length-replicate (placesOf k) (pos 1) in
+    accepts k oneRow zs (placesOf k) (placesOf k) (lent-alone k oneRow zs h refl l) (one-allowed k h) (ones-accepted k zs h l (λ i g. getD-replicate (placesOf k) i (pos 1) (pos 0) g))
 
 -- ---- the set
 no-flag : flagFault (many 17 oneRow) ≡ false
