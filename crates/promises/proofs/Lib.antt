@@ -2,10 +2,10 @@
 pub mod Coincide
 pub mod ByNumber
 pub mod RowsChecked
+pub mod Headed
 pub mod RowNumbers
 pub mod RowRatios
 pub mod Accepts
-pub mod RawOnes
 pub mod KindLaws
 pub mod Longest
 pub mod LongestReached
@@ -18,6 +18,7 @@ pub mod PowerBetween
 pub mod WeightBetween
 pub mod Tame
 pub mod DefaultsAccepted
+pub mod RawOnes
 pub mod Steps
 pub mod OnlyJpeg
 pub mod Strict

@@ -6,19 +6,20 @@ use mathlib.Core.List.{List, [], _∷_}
 use Prim.Native.Nat.{ℕ, zero, suc, _*_, _≤_, _<_}
 use native.Mathlib.Nat.{le-of-eq, le-refl, eq-or-lt-of-le, le-of-suc-le-suc, not-suc-le-zero, lt-irrefl, lt-of-lt-of-le}
 use native.Mathlib.Omega.{arith}
-use borrow.Author.Tests.{eqb-true, eqb-false, ltb-true, ltb-false}
+use borrow.Author.Tests.{ne-eqb, eqb-true, eqb-false, ltb-true, ltb-false}
 use lib.Dec.{ltb, eqb}
 use lib.ListN.{length, getD, drop}
 use Rattle.transform.specs.First.{before}
 use Rattle.transform.proofs.FirstLaws.{before-stop, before-every}
 use Rattle.params.specs.declared.rows.RowCheck.{RowCheck}
 use Rattle.params.specs.declared.rows.RowCheck.the-variants.{Done, Lent, Row}
-use Rattle.params.specs.Allowed.{rowAllowed, rowAt, flagFault, rowFault, checkRows, checkReply}
-use Rattle.params.proofs.FaultLaws.{check-lent, check-row, check-done}
+use Rattle.params.specs.Allowed.{entryRow, rowAllowed, rowAt, modeAt, flagFault, rowFault, checkRows, checkReply}
+use Rattle.params.proofs.FaultLaws.{allowed-entry, check-lent, check-row, check-done}
 use Rattle.dequant.proofs.Lent.{rows-fine}
 use Rattle.record.proofs.OkLaws.{each-take, each-drop}
+use Rattle.record.proofs.SetStores.{row-first}
 use Rattle.promises.proofs.ByNumber.{other, differs}
-use Rattle.promises.proofs.RowRule.{Small}
+use Rattle.promises.proofs.RowRule.{Small, entry-flag}
 use Rattle.promises.proofs.RowTheorem.{Writes, allowed-writes, writes-allowed, fails-unwritten}
 
 -- ---- by the first kind at fault
@@ -59,6 +60,16 @@ module _ (rows : List ℕ) where
       go : checkReply (checkRows rows) ≡ 1 ∷ [] → (b : Bool) → ltb (rowFault rows) 17 ≡ b → length rows ≡ 2176 → ⊥
       go e true q l = differs 6 1 (rowFault rows ∷ []) [] refl (ap checkReply (check-row rows l (ltb-true (rowFault rows) 17 q)) ∙ e)
       go e false q l = differs 0 1 [] [] refl (ap checkReply (check-done rows l (ltb-false (rowFault rows) 17 q)) ∙ e)
+
+-- ---- rows that entries write pass
+no-flag : (rows : List ℕ) → entryRow 0 (rowAt rows 0) ≡ true → flagFault rows ≡ false
+unfolding flagFault
+no-flag rows e =
+    let z : getD rows 126 0 ≡ 0 = sym (row-first rows 0 126 (omega arith)) ∙ entry-flag 0 (rowAt rows 0) e in
+    ap (λ (b : Bool). b && ltb (before (λ kind. eqb (modeAt rows kind) 0) 17) 17) (ne-eqb (getD rows 126 0) 1 (λ i. omega arith))
+
+pub entries-pass : (rows : List ℕ) → length rows ≡ 2176 → ((k : ℕ) → k < 17 → entryRow k (rowAt rows k) ≡ true) → checkReply (checkRows rows) ≡ 0 ∷ []
+entries-pass rows l f = rows-pass rows l (no-flag rows (f 0 (omega arith))) (λ k h. sym (allowed-entry k (rowAt rows k) (omega arith) (f k h)))
 
 -- ---- where a test first fails
 passed-before : (ok : ℕ → Bool) (n j : ℕ) → j < before ok n → ok j ≡ true
