@@ -7,10 +7,8 @@ use native.Mathlib.Nat.{le-of-suc-le-suc}
 use lib.Dec.{lit<}
 use lib.IntN.{ℤ, pos}
 use lib.ListN.{length, replicate}
-use lib.Ieee.{round, mul, ofInt, le, ne}
-use Rattle.bitstream.specs.Half.{half, barred}
+use Rattle.bitstream.specs.Half.{barred}
 use Rattle.params.specs.Allowed.{rowAllowed}
-use Rattle.matrix.specs.Raw.{weightOf, refused}
 use Rattle.matrix.specs.Expanded.{replyOf}
 use Rattle.matrix.proofs.Lending.{all-samples}
 use Rattle.dequant.specs.Set.{expandSet}
@@ -20,6 +18,7 @@ use Rattle.promises.proofs.RawOnes.{rawRow, rawFirst, raw-allowed, firs
 use Rattle.promises.proofs.RowRule.{zeroRow}
 use Rattle.promises.proofs.Headed.{headed-first, headed-length}
 use Rattle.promises.proofs.JpegNumbers.{Asked, p8, p9}
+use Rattle.promises.proofs.NumbersToHold.{p12}
 use Rattle.promises.proofs.JpegPart.{done-length}
 
 -- what P8 and P9 ask is met: for every denominator that reading lets pass, and every channel
@@ -45,10 +44,6 @@ pub none-there : (c : ℕ) → c < 3
 none-there c h = (p9 (rawFirst 0x1003) 394752 c .0 (asked-there 0x1003 c refl h), p9 (rawFirst 0x1005) 394752 c .1 (asked-there 0x1005 c refl h))
 
 -- ---- and such a set is expanded
-fine-16 : refused (weightOf (half 0x1004) (pos 16)) ≡ false
-unfolding weightOf refused half round mul ofInt le ne
-fine-16 = refl
-
 -- with all samples 16 the set that has these JPEG values is accepted as a whole
 pub jpeg-set-done : replyOf (expandSet (rawFirst 0x1004) (replicate 394752 (pos 16)) 394752 394752) ≡ 0 ∷ []
-jpeg-set-done = first-same 0x1004 refl (pos 16) fine-16 394752 refl
+jpeg-set-done = first-same 0x1004 refl (pos 16) (p12 .1) 394752 refl
