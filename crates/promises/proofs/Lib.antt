@@ -30,6 +30,7 @@ pub mod Arena
 pub mod AcceptedSet
 pub mod Shows
 pub mod Differ
+pub mod DifferThere
 pub mod JpegPart
 pub mod FirstWeight
 pub mod JpegNumbers

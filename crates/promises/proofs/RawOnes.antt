@@ -51,6 +51,13 @@ rawAll d = headed (rawRow d) (rawRow d)
 pub whole-lent : (rows : List ℕ) (zs : List ℤ) → length rows ≡ 2176 → length zs ≡ 394752 → setLent rows (length zs) 394752 394752 ≡ true
 whole-lent rows zs l m = sym (by-samples rows (length zs) 394752 394752 true l refl refl (all-samples rows (length zs) m))
 
+-- a place of a kind's part lies in the arena
+pub in-arena : (k p : ℕ) → p < placesOf k → startOf k + p < 394752
+in-arena k p h = go (startOf k) (placesOf k) (end-le k) h
+  where
+    go : (a b : ℕ) → a + b ≤ 394752 → p < b → a + p < 394752
+    go a b e g = omega arith
+
 first-fits : placesOf 0 ≤ 394752
 unfolding placesOf
 first-fits = lit≤ tt
@@ -82,11 +89,8 @@ module _ (d : ℕ) (fine : barred d ≡ false) where
         mixed-set (rawAll d) zs 394752 394752 (whole-lent (rawAll d) zs (headed-length (rawRow d) (rawRow d) refl refl) long) all-passes
         (λ k h. inr (
           sym (mode-at (rawAll d) k) ∙ ap (λ (r : List ℕ). getD r 0 0) (all-rows k h),
-          λ i g. ap (λ (r : List ℕ). refused (weightOf (half (getD r 3 0)) (getD zs (startOf k + i) (pos 0)))) (all-rows k h) ∙ f (startOf k + i) (under (startOf k) (placesOf k) i g (end-le k)),
+          λ i g. ap (λ (r : List ℕ). refused (weightOf (half (getD r 3 0)) (getD zs (startOf k + i) (pos 0)))) (all-rows k h) ∙ f (startOf k + i) (in-arena k i g),
         ))
-      where
-        under : (a b i : ℕ) → i < b → a + b ≤ 394752 → a + i < 394752
-        under a b i h g = omega arith
 
   -- so where all n samples are the same one; n is 394,752
   module _ (z : ℤ) (ok : refused (weightOf (half d) z) ≡ false) (n : ℕ) (whole : n ≡ 394752) where
