@@ -215,7 +215,7 @@ default-accepts k row zs h e =
 pub default-done : (k : ℕ) → k < 17 → replyOf (expandAnswer k zeroRow [] (placesOf k) (placesOf k)) ≡ 0 ∷ []
 default-done k h =
     accepts k zeroRow [] (placesOf k) (placesOf k) (sym (by-samples k zeroRow 0 (placesOf k) (placesOf k) (placesOf k) refl true (le-of-suc-le-suc h) refl refl refl (sym (always (eqb 0 (placesOf k))))))
-    (sym (allowed-entry k zeroRow (le-of-suc-le-suc h) (zero-entry k))) (default-accepts k zeroRow [] h refl)
+    (sym (allowed-entry k zeroRow (le-of-suc-le-suc h) (zero-entry k h))) (default-accepts k zeroRow [] h refl)
   where
     always : (b : Bool) → (b || true) ≡ true
     always true = refl
@@ -244,7 +244,7 @@ bare-set rows ok f =
 
 -- 17 rows of zeros, as 17 entries of mode 0 write them, answer DONE
 pub zero-set-done : replyOf (expandSet (replicate 2176 0) [] 394752 394752) ≡ 0 ∷ []
-zero-set-done = bare-set (replicate 2176 0) (headed-passes zeroRow zeroRow refl refl (zero-entry 0) (λ k. zero-entry (suc k))) modes
+zero-set-done = bare-set (replicate 2176 0) (headed-passes zeroRow zeroRow refl refl (zero-entry 0 (lit< tt)) (λ k h. zero-entry (suc k) h)) modes
   where
     modes : (k : ℕ) → k < 17 → modeAt (replicate 2176 0) k ≡ 0
     modes k h = getD-replicate 2176 (k * 128) 0 0 (omega arith)

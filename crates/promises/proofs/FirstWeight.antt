@@ -30,7 +30,8 @@ use Rattle.promises.proofs.RawPlaces.{raw-straight}
 use Rattle.promises.proofs.Arena.{part-get, arena-at}
 use Rattle.promises.proofs.RowsChecked.{done-fault}
 use Rattle.promises.proofs.Accepts.{lent-alone}
-use Rattle.promises.proofs.RawOnes.{rawRow, raw-allowed}
+use Rattle.promises.proofs.RowRule.{rawRow}
+use Rattle.promises.proofs.RawOnes.{raw-allowed}
 
 some-places : 0 < placesOf 0
 unfolding placesOf

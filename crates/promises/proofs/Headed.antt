@@ -48,12 +48,12 @@ module _ (first rest : List ℕ) (long : length first ≡ 128) (same : length re
   headed-row k h = behind first (many 16 rest) k long ∙ many-row 16 k rest same (le-of-suc-le-suc h)
 
   -- it passes ROW where the rows are ones that entries of their kinds write
-  pub headed-passes : entryRow 0 first ≡ true → ((k : ℕ) → entryRow (suc k) rest ≡ true) → checkReply (checkRows (headed first rest)) ≡ 0 ∷ []
+  pub headed-passes : entryRow 0 first ≡ true → ((k : ℕ) → suc k < 17 → entryRow (suc k) rest ≡ true) → checkReply (checkRows (headed first rest)) ≡ 0 ∷ []
   headed-passes e f = entries-pass (headed first rest) headed-length each
     where
       each : (k : ℕ) → k < 17 → entryRow k (rowAt (headed first rest) k) ≡ true
       each zero h = ap (entryRow 0) headed-first ∙ e
-      each (suc k) h = ap (entryRow (suc k)) (headed-row k h) ∙ f k
+      each (suc k) h = ap (entryRow (suc k)) (headed-row k h) ∙ f k h
 
 -- 17 rows of zeros
 pub zero-rows : (k : ℕ) → k < 17 → rowAt (replicate 2176 0) k ≡ zeroRow

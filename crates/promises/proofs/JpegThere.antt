@@ -14,8 +14,8 @@ use Rattle.matrix.proofs.Lending.{all-samples}
 use Rattle.dequant.specs.Set.{expandSet}
 use Rattle.dequant.specs.Jpeg.{jpegNumbers, jpegAnswer, jpegValues}
 use Rattle.dequant.proofs.JpegLaws.{by-samples}
-use Rattle.promises.proofs.RawOnes.{rawRow, rawFirst, raw-allowed, first-same}
-use Rattle.promises.proofs.RowRule.{zeroRow}
+use Rattle.promises.proofs.RawOnes.{rawFirst, raw-allowed, first-same}
+use Rattle.promises.proofs.RowRule.{zeroRow, rawRow}
 use Rattle.promises.proofs.Headed.{headed-first, headed-length}
 use Rattle.promises.proofs.JpegNumbers.{Asked, p8, p9}
 use Rattle.promises.proofs.NumbersToHold.{p12}

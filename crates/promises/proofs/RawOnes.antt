@@ -1,20 +1,20 @@
 -- Sets with raw kinds that are accepted: row 0 raw and 16 defaults behind it, and all 17 raw. So not everything is refused: all samples 1 at the denominator 3c00, which is 1,
 -- are accepted, each kind by itself and all 17 as a set. Assumes nothing.
 use mathlib.Core.Path.{_≡_, refl, sym, ap, _∙_}
-use mathlib.Core.Bool.{Bool, true, false, not, _&&_}
+use mathlib.Core.Bool.{true, false}
 use mathlib.Core.Logic.{_⊎_, inl, inr}
 use mathlib.Core.List.{List, [], _∷_}
 use Prim.Native.Nat.{ℕ, zero, suc, _+_, _≤_, _<_}
 use native.Mathlib.Nat.{le-of-eq, le-of-suc-le-suc, lt-of-lt-of-le}
 use native.Mathlib.Omega.{arith}
-use lib.Dec.{lit≤}
+use lib.Dec.{lit≤, lit<}
 use lib.IntN.{ℤ, pos}
 use lib.ListN.{length, getD, replicate, length-replicate, getD-replicate}
 use lib.Ieee.{round, mul, ofInt, le, ne}
 use Rattle.transform.specs.Kinds.{placesOf, startOf}
 use Rattle.transform.proofs.Laws.{end-le}
 use Rattle.bitstream.specs.Half.{half, barred}
-use Rattle.params.specs.Allowed.{rowAt, modeAt, rowAllowed, entryRow, checkRows, checkReply}
+use Rattle.params.specs.Allowed.{rowAt, modeAt, rowAllowed, checkRows, checkReply}
 use Rattle.params.proofs.FaultLaws.{allowed-entry}
 use Rattle.matrix.specs.Raw.{weightOf, refused}
 use Rattle.matrix.specs.Expanded.{replyOf, expandAnswer}
@@ -22,23 +22,14 @@ use Rattle.dequant.specs.Set.{setLent, expandSet}
 use Rattle.params.proofs.RawLaws.{all-samples}
 use Rattle.dequant.proofs.Lent.{by-samples}
 use Rattle.dequant.proofs.Kindwise.{mode-at}
-use Rattle.promises.proofs.RowRule.{zeroRow, zero-entry}
+use Rattle.promises.proofs.RowRule.{zeroRow, zero-entry, rawRow, raw-entry}
 use Rattle.promises.proofs.Headed.{headed, headed-first, headed-row, headed-length, headed-passes}
 use Rattle.promises.proofs.Accepts.{lent-alone, raw-accepts}
 use Rattle.promises.proofs.DefaultsAccepted.{mixed-set}
 
--- a raw row of a denominator
-abbrev pub rawRow : ℕ → List ℕ
-rawRow d = 7 ∷ 0 ∷ 0 ∷ d ∷ replicate 124 0
-
--- it is one that an entry of every kind writes, if reading lets the denominator pass
-raw-entry : (k d : ℕ) → barred d ≡ false → entryRow k (rawRow d) ≡ true
-unfolding entryRow
-raw-entry k d e = ap (λ (b : Bool). (not b && true) && true) e
-
--- so it passes ROW
+-- a raw row passes ROW for every kind, if reading lets its denominator pass
 pub raw-allowed : (k d : ℕ) → k < 17 → barred d ≡ false → rowAllowed k (rawRow d) ≡ true
-raw-allowed k d h e = sym (allowed-entry k (rawRow d) (le-of-suc-le-suc h) (raw-entry k d e))
+raw-allowed k d h e = sym (allowed-entry k (rawRow d) (le-of-suc-le-suc h) (raw-entry k d h e))
 
 -- row 0 raw of a denominator, and 16 rows of zeros behind it; and all 17 raw of it
 abbrev pub rawFirst : ℕ → List ℕ
@@ -65,10 +56,10 @@ first-fits = lit≤ tt
 module _ (d : ℕ) (fine : barred d ≡ false) where
   -- they pass ROW
   pub first-passes : checkReply (checkRows (rawFirst d)) ≡ 0 ∷ []
-  first-passes = headed-passes (rawRow d) zeroRow refl refl (raw-entry 0 d fine) (λ k. zero-entry (suc k))
+  first-passes = headed-passes (rawRow d) zeroRow refl refl (raw-entry 0 d (lit< tt) fine) (λ k h. zero-entry (suc k) h)
 
   all-passes : checkReply (checkRows (rawAll d)) ≡ 0 ∷ []
-  all-passes = headed-passes (rawRow d) (rawRow d) refl refl (raw-entry 0 d fine) (λ k. raw-entry (suc k) d fine)
+  all-passes = headed-passes (rawRow d) (rawRow d) refl refl (raw-entry 0 d (lit< tt) fine) (λ k h. raw-entry (suc k) d h fine)
 
   pub all-rows : (k : ℕ) → k < 17 → rowAt (rawAll d) k ≡ rawRow d
   all-rows zero h = headed-first (rawRow d) (rawRow d) refl refl

@@ -1,18 +1,19 @@
 -- `entryRow` passes exactly the rows that a kind's entry is read into: what passes has fields that bits can spell, and what is read passes.
 use mathlib.Core.Path.{_≡_, refl, sym, ap, _∙_}
-use mathlib.Core.Bool.{true}
+use mathlib.Core.Bool.{true, false}
 use mathlib.Core.List.{List, [], _∷_, _++_}
 use Prim.Native.Nat.{ℕ, zero, suc, _+_, _-_, _^_, _≤_, _<_}
 use native.Mathlib.Omega.{arith}
 use lib.ListN.{length, getD, replicate, length-append, getD-replicate}
 use lib.Seq.{getD-append-add}
 use lib.Dec.{lit≤, lit<}
+use Rattle.bitstream.specs.Half.{barred}
 use Rattle.params.proofs.Written.{Field, bits, span, Sized, numbersOf, rowOf, Written, plain, one, two}
 use Rattle.params.specs.Allowed.{entryRow}
 use Rattle.params.proofs.RowLaws.{shape-fits}
 use Rattle.promises.proofs.Shape.{span-append, span-numbers}
 use Rattle.params.proofs.AllowedLaws.{written-ok, ok-written, ok-long}
-use Rattle.params.specs.Row.{on, entry}
+use Rattle.params.specs.Row.{on, allowed, entry}
 use Rattle.record.specs.Description.{Each}
 use Rattle.record.proofs.FlatLaws.{fixed-small}
 use Rattle.promises.proofs.Readable.{read-written}
@@ -106,12 +107,24 @@ written-flag kind row fs (two m c d a x y l o f g) =
 pub entry-flag : (kind : ℕ) (row : List ℕ) → entryRow kind row ≡ true → getD row 126 0 ≡ 0
 entry-flag kind row e = let (m, fs, w, h) = ok-written kind row e in written-flag kind row (bits 3 m ∷ fs) w
 
--- ---- a row of zeros is one, for every kind: an entry of mode 0 writes it
+-- ---- rows of modes that every kind has
+-- modes 0, 6 and 7 are for every kind
+pub modes-open : (kind : ℕ) → kind < 17 → (allowed kind 0 ≡ true) × (allowed kind 6 ≡ true) × (allowed kind 7 ≡ true)
+modes-open kind h = (refl, refl, refl)
+
+-- a row of zeros: an entry of mode 0 writes it
 abbrev pub zeroRow : List ℕ
 zeroRow = replicate 128 0
 
-pub zero-written : (kind : ℕ) → Written kind zeroRow (bits 3 0 ∷ [])
-zero-written kind = plain 0 [] refl (record { allows = refl; count = refl; fine = tt })
+pub zero-written : (kind : ℕ) → kind < 17 → Written kind zeroRow (bits 3 0 ∷ [])
+zero-written kind h = plain 0 [] refl (record { allows = modes-open kind h .0; count = refl; fine = tt })
 
-pub zero-entry : (kind : ℕ) → entryRow kind zeroRow ≡ true
-zero-entry kind = written-ok kind 0 zeroRow [] (zero-written kind) (lit< tt)
+pub zero-entry : (kind : ℕ) → kind < 17 → entryRow kind zeroRow ≡ true
+zero-entry kind h = written-ok kind 0 zeroRow [] (zero-written kind h) (lit< tt)
+
+-- a raw row of a denominator that reading lets pass
+abbrev pub rawRow : ℕ → List ℕ
+rawRow d = 7 ∷ 0 ∷ 0 ∷ d ∷ replicate 124 0
+
+pub raw-entry : (kind d : ℕ) → kind < 17 → barred d ≡ false → entryRow kind (rawRow d) ≡ true
+raw-entry kind d h e = written-ok kind 7 (rawRow d) (numbersOf (d ∷ [])) (plain 7 (d ∷ []) refl (record { allows = modes-open kind h .2; count = refl; fine = (e, tt) })) (lit< tt)

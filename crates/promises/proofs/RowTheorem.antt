@@ -1,20 +1,19 @@
 -- ROW, as document 01 says it: a row passes exactly if some bytes, read at some bit from some kind on, write it. Both ways. Assumes nothing.
-use mathlib.Core.Path.{_≡_, refl, sym, ap, _∙_, subst}
-use mathlib.Core.Bool.{Bool, true, false, cond, _&&_, _||_, true≢false}
+use mathlib.Core.Path.{_≡_, refl, sym, ap, _∙_, subst⁻¹}
+use mathlib.Core.Bool.{Bool, true, false, cond, true≢false}
 use mathlib.Core.Logic.{_↔_, _⊎_, inl, inr, ⊎-elim}
 use mathlib.Core.List.{List, [], _∷_, _++_}
 use Prim.Native.Nat.{ℕ, zero, suc, _+_, _-_, _*_, _≤_, _<_}
-use native.Mathlib.Decide.{decLt}
+use native.Mathlib.Decide.{ℕ-discrete, decLt}
 use native.Mathlib.Nat.{le-of-eq}
 use native.Mathlib.Omega.{arith}
 use lib.ListN.{length, getD, set, take, drop, replicate, length-replicate, getD-replicate, length-drop, take-append-drop}
 use lib.Seq.{drop-cons, length-take-le}
-use lib.Dec.{T, eqb, ltb, lit≤, lit<}
+use lib.Dec.{T, eqb, lit≤, lit<}
 use lib.Pow.{areBytes}
-use borrow.Author.Tests.{eqb-true, ltb-true}
+use borrow.Author.Tests.{eqb-true}
 use Rattle.transform.specs.First.{before}
 use Rattle.transform.proofs.FirstLaws.{before-each}
-use Rattle.bitstream.specs.Bits.{readBits, field}
 use Rattle.bitstream.proofs.Bytes.{bytesOf, bytesOf-bytes}
 use Rattle.params.specs.declared.read.Reading.the-variants.{Done, Raw}
 use Rattle.params.specs.Row.{on, entry}
@@ -23,7 +22,7 @@ use Rattle.params.specs.Allowed.{allZero, entryRow, flagRow, rowAllowed, rowAt}
 use Rattle.params.proofs.Written.{Field, bits, span, Spells, Sized, Written}
 use Rattle.params.proofs.SetLaws.{kind-done, kinds-step, kinds-stays, header-resume, header-default, header-all}
 use Rattle.params.proofs.AllowedLaws.{and-true, zeros-of}
-use Rattle.params.proofs.FaultLaws.{allowed-entry}
+use Rattle.params.proofs.FaultLaws.{allowed-none, allowed-entry, allowed-other, allowed-flag}
 use Rattle.dequant.proofs.Kindwise.{mode-at}
 use Rattle.promises.proofs.ReadWritten.{entry-spelt}
 use Rattle.promises.proofs.Readable.{numberOf, spelt}
@@ -72,7 +71,7 @@ skipped b zero start kind p row rows fs e h l w s =
     let x = entry-spelt b kind p row fs w s in
     ap (λ (k : ℕ). rowAt (kinds b (17 - k) k (gives (Done p) rows) .rows) kind) z ∙ row-read b kind p (p + span fs) (x .0) row rows h l (x .1)
 skipped b (suc d) start kind p row rows fs e h l w s =
-    let x = entry-spelt b start p zeroRow (bits 3 0 ∷ []) (zero-written start) (s .0, tt) in
+    let x = entry-spelt b start p zeroRow (bits 3 0 ∷ []) (zero-written start (omega arith)) (s .0, tt) in
     let put : List ℕ = putRow rows start zeroRow in
     let m : length put ≡ length rows = put-long rows zeroRow refl start (omega arith) in
     ap (λ (o : Outcome). rowAt (o .rows) kind) (sym (kinds-step b start p rows (gives (Done (p + 3)) put) (omega arith) (kind-done start rows put _ (p + 3) (x .0) zeroRow (x .1) refl (λ i. omega arith))))
@@ -133,32 +132,27 @@ flag-is row e =
     ∙ ap (λ (u : List ℕ). replicate 126 0 ++ u) (drop-cons row 126 0 (omega arith) ∙ ap (λ (v : ℕ). v ∷ drop 127 row) (eqb-true (getD row 126 0) 1 v) ∙ ap (λ (u : List ℕ). 1 ∷ u) last)
 
 flag-writes : (row : List ℕ) → flagRow row ≡ true → Writes 0 0 row
-unfolding readBits field default-row
+unfolding default-row
 flag-writes row e =
+    let t = spelt 1 1 0 (bits 1 1 ∷ []) (lit≤ tt, lit≤ tt, tt) refl (lit≤ tt) (lit≤ tt) in
     record {
-      bytes = 1 ∷ [];
-      are = tt;
+      bytes = bytesOf 1 1;
+      are = bytesOf-bytes 1 1;
       bit = 0;
-      writes = λ rows small l. ap (λ (o : Outcome). rowAt (o .rows) 0) (header-default (1 ∷ []) 0 0 rows refl l 1 1 refl refl) ∙ sym (flag-is row e);
+      writes = λ rows small l. ap (λ (o : Outcome). rowAt (o .rows) 0) (header-default (bytesOf 1 1) 0 0 rows refl l 1 1 (t .0) refl) ∙ sym (flag-is row e);
     }
-
-or-true : (a b : Bool) → a || b ≡ true → (a ≡ true) ⊎ (b ≡ true)
-or-true true b e = inl refl
-or-true false b e = inr e
 
 -- a row that passes is written by some reading, begun at any one kind up to it
 pub allowed-writes : (start kind : ℕ) → start ≤ kind → (row : List ℕ) → Small row → rowAllowed kind row ≡ true → Writes start kind row
-unfolding rowAllowed
-allowed-writes start kind h row s e =
-    let (n, t) = and-true (ltb kind 17) _ e in
-    ⊎-elim (λ i. entry-writes start kind h (ltb-true kind 17 n) row s i) flagged (or-true (entryRow kind row) (eqb kind 0 && flagRow row) t)
+allowed-writes start kind h row s e = go (decLt 16 kind) (entryRow kind row) refl (ℕ-discrete kind 0)
   where
-    flagged : (eqb kind 0 && flagRow row) ≡ true → Writes start kind row
-    flagged i =
-        let (z, f) = and-true (eqb kind 0) (flagRow row) i in
-        let k : kind ≡ 0 = eqb-true kind 0 z in
+    go : Dec (16 < kind) → (t : Bool) → entryRow kind row ≡ t → Dec (kind ≡ 0) → Writes start kind row
+    go (yes n) t f z = absurd (true≢false (sym e ∙ sym (allowed-none kind row n)))
+    go (no n) true f z = entry-writes start kind h (omega arith) row s f
+    go (no n) false f (yes z) =
         let j : start ≡ 0 = omega arith in
-        subst (λ (m : ℕ). Writes start m row) (sym k) (subst (λ (m : ℕ). Writes m 0 row) (sym j) (flag-writes row f))
+        subst⁻¹ (λ (m : ℕ). Writes start m row) z (subst⁻¹ (λ (m : ℕ). Writes m 0 row) j (flag-writes row (allowed-flag kind row f z ∙ e)))
+    go (no n) false f (no z) = absurd (true≢false (sym e ∙ sym (allowed-other kind row (omega arith) f (omega arith))))
 
 -- ---- from bytes to a row that passes
 

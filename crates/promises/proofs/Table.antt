@@ -20,9 +20,9 @@ use Rattle.dequant.specs.Jpeg.{jpegNumbers, jpegAnswer}
 use Rattle.bands.proofs.Numbers.{P7, p7}
 use Rattle.promises.proofs.ByNumber.{done-only}
 use Rattle.promises.proofs.NumbersToHold as weights
-use Rattle.promises.proofs.RowRule.{zeroRow}
+use Rattle.promises.proofs.RowRule.{zeroRow, rawRow}
 use Rattle.promises.proofs.Headed.{headed-length}
-use Rattle.promises.proofs.RawOnes.{rawRow, rawFirst, whole-lent, first-passes, first-same}
+use Rattle.promises.proofs.RawOnes.{rawFirst, whole-lent, first-passes, first-same}
 use Rattle.promises.proofs.JpegNumbers.{Asked, p8, p9}
 use Rattle.promises.proofs.JpegThere.{asked-there}
 use Rattle.promises.proofs.FirstWeight.{Begins, set-first, set-refused}
