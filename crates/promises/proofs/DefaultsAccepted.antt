@@ -43,7 +43,7 @@ use Rattle.promises.proofs.ReadPasses.{default-passes}
 use Rattle.promises.proofs.Arena.{part-get}
 use Rattle.promises.proofs.Accepts.{raw-passes, accepts, bare-lent, set-accepts}
 use Rattle.promises.proofs.RowNumbers.{listNumber, ownList, at-place, place, inside, defaults-room}
-use Rattle.promises.proofs.Tame.{used, Tame, tame-passes}
+use Rattle.promises.proofs.Tame.{Moderate, Divisor, used, Tame, tame-passes}
 
 -- ---- the test: an f32 from 2 ^ -24 to 2 ^ 40; and one from 1/2 to 2
 abbrev spans : ℕ → ℕ → Float → Bool
@@ -76,10 +76,10 @@ fairTest x = spans (2 ^ 24) (2 ^ 40) x
 abbrev divisorTest : Float → Bool
 divisorTest x = spans 2 2 x
 
-fair-banded : (x : Float) → T (fairTest x) → Banded (2 ^ 125) (2 ^ 189) x
+fair-banded : (x : Float) → T (fairTest x) → Moderate x
 fair-banded x t = spans-banded (2 ^ 24) (2 ^ 40) (2 ^ 125) x refl t
 
-divisor-banded : (x : Float) → T (divisorTest x) → Banded (2 ^ 148) (2 ^ 150) x
+divisor-banded : (x : Float) → T (divisorTest x) → Divisor x
 divisor-banded x t = spans-banded 2 2 (2 ^ 148) x refl t
 
 -- ---- by computation, over the table of defaults
@@ -144,9 +144,9 @@ module _ (k : ℕ) (named : k < 17) where
   list-tested zero = and-l (bandTest k 0) (bandTest k 1) (at (λ k. bandTest k 0 && bandTest k 1) 17 bands-tested k named)
   list-tested (suc l) = and-r (bandTest k 0) (bandTest k 1) (at (λ k. bandTest k 0 && bandTest k 1) 17 bands-tested k named)
 
-  bands-fair : (l c i : ℕ) → c < 3 → i < count (defaultNumbers k) l → Banded (2 ^ 125) (2 ^ 189) (bandAt (listNumber (defaultNumbers k) l c) i)
+  bands-fair : (l c i : ℕ) → c < 3 → i < count (defaultNumbers k) l → Moderate (bandAt (listNumber (defaultNumbers k) l c) i)
   bands-fair l c i h g =
-      subst (Banded (2 ^ 125) (2 ^ 189)) (sym (band-same (listNumber (defaultNumbers k) l c) (listValue k l c) i (λ j z. list-value l c j h (native.Mathlib.Nat.lt-of-le-of-lt z g))))
+      subst Moderate (sym (band-same (listNumber (defaultNumbers k) l c) (listValue k l c) i (λ j z. list-value l c j h (native.Mathlib.Nat.lt-of-le-of-lt z g))))
       (fair-banded (bandAt (listValue k l c) i)
       (at (λ i. fairTest (bandAt (listValue k l c) i)) (count (defaultNumbers k) l) (at (λ c. below (λ i. fairTest (bandAt (listValue k l c) i)) (count (defaultNumbers k) l)) 3 (list-tested l) c h) i g))
 
@@ -163,16 +163,16 @@ module _ (k : ℕ) (named : k < 17) where
       room : (a i : ℕ) → a ≤ 18 → i < 9 → a + i < 123
       room a i h g = omega arith
 
-  numbers-fair : (c i : ℕ) → c < 3 → i < used (defaultMode k) → Banded (2 ^ 125) (2 ^ 189) (numberOf (defaultNumbers k) c i)
+  numbers-fair : (c i : ℕ) → c < 3 → i < used (defaultMode k) → Moderate (numberOf (defaultNumbers k) c i)
   numbers-fair c i h g =
-      subst (Banded (2 ^ 125) (2 ^ 189)) (sym (number-value c i h (lt-of-lt-of-le g few-used)))
+      subst Moderate (sym (number-value c i h (lt-of-lt-of-le g few-used)))
       (fair-banded (defaultValue k (c * each (defaultMode k) + i))
       (at (λ i. fairTest (defaultValue k (c * each (defaultMode k) + i))) (used (defaultMode k))
       (at (λ c. below (λ i. fairTest (defaultValue k (c * each (defaultMode k) + i))) (used (defaultMode k))) 3 (at numberTest 17 numbers-tested k named) c h) i g))
 
-  divisors-fair : 3 ≤ defaultMode k → defaultMode k ≤ 4 → (c i : ℕ) → c < 3 → i < used (defaultMode k) → Banded (2 ^ 148) (2 ^ 150) (numberOf (defaultNumbers k) c i)
+  divisors-fair : 3 ≤ defaultMode k → defaultMode k ≤ 4 → (c i : ℕ) → c < 3 → i < used (defaultMode k) → Divisor (numberOf (defaultNumbers k) c i)
   divisors-fair a b c i h g =
-      subst (Banded (2 ^ 148) (2 ^ 150)) (sym (number-value c i h (lt-of-lt-of-le g few-used)))
+      subst Divisor (sym (number-value c i h (lt-of-lt-of-le g few-used)))
       (divisor-banded (defaultValue k (c * each (defaultMode k) + i))
       (at (λ i. divisorTest (defaultValue k (c * each (defaultMode k) + i))) (used (defaultMode k))
       (at (λ c. below (λ i. divisorTest (defaultValue k (c * each (defaultMode k) + i))) (used (defaultMode k))) 3
@@ -189,9 +189,9 @@ module _ (k : ℕ) (named : k < 17) where
       value : (i : ℕ) → i < 9 → numberOf (defaultNumbers k) c i ≡ defaultValue k (c * 9 + i)
       value i g = number-value c i h g ∙ ap (λ (m : ℕ). defaultValue k (c * each m + i)) e
 
-  own-fair : defaultMode k ≡ 5 → (c i : ℕ) → c < 3 → i < 4 → Banded (2 ^ 125) (2 ^ 189) (bandAt (atOf (ownList (defaultNumbers k) c)) i)
+  own-fair : defaultMode k ≡ 5 → (c i : ℕ) → c < 3 → i < 4 → Moderate (bandAt (atOf (ownList (defaultNumbers k) c)) i)
   own-fair e c i h g =
-      subst (λ (l : List Float). Banded (2 ^ 125) (2 ^ 189) (bandAt (atOf l) i)) (sym (own-values e c h))
+      subst (λ (l : List Float). Moderate (bandAt (atOf l) i)) (sym (own-values e c h))
       (fair-banded (bandAt (atOf (ownValues k c)) i)
       (at (λ i. fairTest (bandAt (atOf (ownValues k c)) i)) 4
       (at (λ c. below (λ i. fairTest (bandAt (atOf (ownValues k c)) i)) 4) 3

@@ -62,14 +62,14 @@ module _ (rows : List ℕ) where
       go e false q l = differs 0 1 [] [] refl (ap checkReply (check-done rows l (ltb-false (rowFault rows) 17 q)) ∙ e)
 
 -- ---- rows that entries write pass
-no-flag : (rows : List ℕ) → entryRow 0 (rowAt rows 0) ≡ true → flagFault rows ≡ false
+flag-off : (rows : List ℕ) → entryRow 0 (rowAt rows 0) ≡ true → flagFault rows ≡ false
 unfolding flagFault
-no-flag rows e =
+flag-off rows e =
     let z : getD rows 126 0 ≡ 0 = sym (row-first rows 0 126 (omega arith)) ∙ entry-flag 0 (rowAt rows 0) e in
     ap (λ (b : Bool). b && ltb (before (λ kind. eqb (modeAt rows kind) 0) 17) 17) (ne-eqb (getD rows 126 0) 1 (λ i. omega arith))
 
 pub entries-pass : (rows : List ℕ) → length rows ≡ 2176 → ((k : ℕ) → k < 17 → entryRow k (rowAt rows k) ≡ true) → checkReply (checkRows rows) ≡ 0 ∷ []
-entries-pass rows l f = rows-pass rows l (no-flag rows (f 0 (omega arith))) (λ k h. sym (allowed-entry k (rowAt rows k) (omega arith) (f k h)))
+entries-pass rows l f = rows-pass rows l (flag-off rows (f 0 (omega arith))) (λ k h. sym (allowed-entry k (rowAt rows k) (omega arith) (f k h)))
 
 -- ---- where a test first fails
 passed-before : (ok : ℕ → Bool) (n j : ℕ) → j < before ok n → ok j ≡ true

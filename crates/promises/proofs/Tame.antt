@@ -2,7 +2,7 @@
 use mathlib.Core.Path.{_≡_, refl, sym, ap, _∙_, subst}
 use mathlib.Core.Bool.{Bool, true, false, cond, not, _&&_, _||_}
 use mathlib.Core.List.{List, [], _∷_}
-use Prim.Native.Nat.{ℕ, zero, suc, _+_, _*_, _/_, _%_, _^_, _≤_, _<_}
+use Prim.Native.Nat.{ℕ, zero, suc, _+_, _-_, _*_, _/_, _%_, _^_, _≤_, _<_}
 use native.Mathlib.Nat.{mod-lt, div-lt-iff-lt-mul, le-refl, le-trans, le-of-eq, le-suc, lt-of-lt-of-le, lt-of-le-of-lt, not-suc-le-zero, mul-one, one-mul, mul-comm, mul-right-comm, mul-pos, mul-le-mul-right, mul-le-mul-left, le-of-mul-le-mul-right}
 use native.Mathlib.Omega.{arith}
 use borrow.Author.Tests.{le-ltb, ne-eqb, eq-eqb}
@@ -92,7 +92,13 @@ inverse-fine w b =
     (lit< tt)) in
     fine-value (div binary32 one w) (r .at) (r .value) (lt-of-lt-of-le (pow-pos 107) (r .least)) (r .most)
 
--- ---- what lies from 2 ^ -24 to 2 ^ 40
+-- ---- what lies from 2 ^ -24 to 2 ^ 40, and from 1/2 to 2, in units of 2 ^ -149
+abbrev pub Moderate : Float → Type 0
+Moderate = Banded (2 ^ (149 - 24)) (2 ^ (149 + 40))
+
+abbrev pub Divisor : Float → Type 0
+Divisor = Banded (2 ^ (149 - 1)) (2 ^ (149 + 1))
+
 tame-room : Room (2 ^ 125) (2 ^ 189)
 tame-room = record { low = lit≤ tt; high = lit≤ tt; near = lit≤ tt }
 
@@ -121,11 +127,11 @@ wider a b c d z l h r = record { at = r .at; value = r .value; most = le-trans (
 fair-good : (w : Float) → Fair w → Good w
 fair-good w r = wider (2 ^ 124) (2 ^ 190) (2 ^ 123) (2 ^ 191) w (lit≤ tt) (lit≤ tt) r
 
-tame-good : (w : Float) → Banded (2 ^ 125) (2 ^ 189) w → Good w
+tame-good : (w : Float) → Moderate w → Good w
 tame-good w r = wider (2 ^ 125) (2 ^ 189) (2 ^ 123) (2 ^ 191) w (lit≤ tt) (lit≤ tt) r
 
 -- divided by a number from 1/2 to 2
-over-good : (w p : Float) → Fair w → Banded (2 ^ 148) (2 ^ 150) p → Good (div binary32 w p)
+over-good : (w p : Float) → Fair w → Divisor p → Good (div binary32 w p)
 unfolding size
 over-good w p b r =
     let pos0 : 0 < r .at = lt-of-lt-of-le (pow-pos 148) (r .least) in
@@ -143,12 +149,12 @@ one-good = record { at = 2 ^ 149; value = one-units; most = lit≤ tt; least = l
 abbrev pub used : ℕ → ℕ
 used m = getD (0 ∷ 3 ∷ 6 ∷ 2 ∷ 1 ∷ 5 ∷ []) m 0
 
--- bands and numbers from 2 ^ -24 to 2 ^ 40; what modes 3 and 4 divide by from 1/2 to 2; all in units of 2 ^ -149
+-- bands and numbers from 2 ^ -24 to 2 ^ 40; what modes 3 and 4 divide by from 1/2 to 2
 pub record Tame (n : Numbers) : Type 0 where
-  pub bands : (l c i : ℕ) → c < 3 → i < count n l → Banded (2 ^ 125) (2 ^ 189) (bandAt (listNumber n l c) i)
-  pub numbers : (c i : ℕ) → c < 3 → i < used (n .mode) → Banded (2 ^ 125) (2 ^ 189) (numberOf n c i)
-  pub divisors : 3 ≤ n .mode → n .mode ≤ 4 → (c i : ℕ) → c < 3 → i < used (n .mode) → Banded (2 ^ 148) (2 ^ 150) (numberOf n c i)
-  pub own : n .mode ≡ 5 → (c i : ℕ) → c < 3 → i < 4 → Banded (2 ^ 125) (2 ^ 189) (bandAt (atOf (ownList n c)) i)
+  pub bands : (l c i : ℕ) → c < 3 → i < count n l → Moderate (bandAt (listNumber n l c) i)
+  pub numbers : (c i : ℕ) → c < 3 → i < used (n .mode) → Moderate (numberOf n c i)
+  pub divisors : 3 ≤ n .mode → n .mode ≤ 4 → (c i : ℕ) → c < 3 → i < used (n .mode) → Divisor (numberOf n c i)
+  pub own : n .mode ≡ 5 → (c i : ℕ) → c < 3 → i < 4 → Moderate (bandAt (atOf (ownList n c)) i)
 
 -- ---- no band is refused
 above-passes : (m : ℕ) (e : ℤ) → 0 < m * up e → barred (fin false m e) ≡ false
@@ -163,7 +169,7 @@ above-passes m e low =
     some : (n d : ℕ) → 0 < n → n * 1 ≡ 0 * 1 * d → ⊥
     some n d h z = omega arith
 
-banded-passes : (b : Float) → Banded (2 ^ 125) (2 ^ 189) b → barred b ≡ false
+banded-passes : (b : Float) → Moderate b → barred b ≡ false
 banded-passes b r = go b (r .at) (r .value) (lt-of-lt-of-le (pow-pos 125) (r .least))
   where
     go : (x : Float) (g : ℕ) → Units binary32 x g → 0 < g → barred x ≡ false
