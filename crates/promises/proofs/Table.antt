@@ -14,7 +14,8 @@ use Rattle.params.specs.Allowed.{checkRows, checkReply}
 use Rattle.params.proofs.Numbers as headers
 use Rattle.matrix.specs.Raw.{weightOf, refused}
 use Rattle.matrix.specs.Mirror.{straightPlace, transposedPlace, mirror}
-use Rattle.matrix.specs.Expanded.{replyOf as expandedReply, leaves}
+use Rattle.matrix.specs.Weight.{weightsOf}
+use Rattle.matrix.specs.Expanded.{replyOf as expandedReply, expandAnswer, leaves}
 use Rattle.dequant.specs.Set.{straightArena, setLent, expandSet}
 use Rattle.dequant.specs.Jpeg.{jpegNumbers, jpegAnswer}
 use Rattle.bands.proofs.Numbers.{P7, p7}
@@ -25,7 +26,7 @@ use Rattle.promises.proofs.Headed.{headed-length}
 use Rattle.promises.proofs.RawOnes.{rawFirst, whole-lent, first-passes, first-same}
 use Rattle.promises.proofs.JpegNumbers.{Asked, p8, p9}
 use Rattle.promises.proofs.JpegThere.{asked-there}
-use Rattle.promises.proofs.FirstWeight.{Begins, set-first, set-refused}
+use Rattle.promises.proofs.FirstWeight.{Begins, set-first, set-refused, Raw, first-weight, first-refused, raw-there}
 
 -- ---- what a line of the table says
 
@@ -38,21 +39,26 @@ pub record Values (d : ℕ) (reply : List ℕ) : Type 0 where
   pub answers : (rows : List ℕ) (n c : ℕ) → Asked rows n c d → jpegNumbers (jpegAnswer rows n c) ≡ reply
   pub there : (c : ℕ) → c < 3 → (rows : List ℕ) × (n : ℕ) × Asked rows n c d
 
--- a sample times a denominator is a weight that is not refused. Of every set that is accepted, with row 0 raw of that denominator and that sample the first, `expand` leaves it at place 0
--- of the straight arena, whatever stood there; and there is such a set
+-- A sample times a denominator is a weight that is not refused. Of every set that is accepted, with row 0 raw of that denominator and that sample the first, `expand` leaves it at place 0
+-- of the straight arena, whatever stood there; and there is such a set. Of kind 0 by itself it is the weight at place 0.
 pub record Gives (d : ℕ) (z : ℤ) (w : Float) : Type 0 where
   pub product : weightOf (half d) z ≡ w
   pub passes : refused w ≡ false
   pub holds : (rows : List ℕ) (zs : List ℤ) (straight : List Float) → Begins rows zs d z → expandedReply (expandSet rows zs 394752 394752) ≡ 0 ∷ []
       → getD (leaves (expandSet rows zs 394752 394752) (straightArena rows zs) straight) 0 nan ≡ w
   pub there : (rows : List ℕ) × (zs : List ℤ) × Begins rows zs d z × (expandedReply (expandSet rows zs 394752 394752) ≡ 0 ∷ [])
+  pub alone : (row : List ℕ) (zs : List ℤ) → Raw row zs d z → getD (weightsOf row zs 0) 0 nan ≡ w
+  pub alone-there : (row : List ℕ) × (zs : List ℤ) × Raw row zs d z
 
--- a sample times a denominator is refused. Every set that passes LENT and ROW, with row 0 raw of that denominator and that sample the first, is WEIGHT with kind 0, channel 0, place 0;
--- and there is such a set
+-- A sample times a denominator is refused. Every set that passes LENT and ROW, with row 0 raw of that denominator and that sample the first, is WEIGHT with kind 0, channel 0, place 0;
+-- and there is such a set. So is kind 0 by itself.
 pub record Refuses (d : ℕ) (z : ℤ) : Type 0 where
   pub product : refused (weightOf (half d) z) ≡ true
-  pub replies : (rows : List ℕ) (zs : List ℤ) → Begins rows zs d z → setLent rows (length zs) 394752 394752 ≡ true → checkReply (checkRows rows) ≡ 0 ∷ [] → expandedReply (expandSet rows zs 394752 394752) ≡ 8 ∷ 0 ∷ 0 ∷ 0 ∷ []
+  pub replies : (rows : List ℕ) (zs : List ℤ) → Begins rows zs d z → setLent rows (length zs) 394752 394752 ≡ true → checkReply (checkRows rows) ≡ 0 ∷ []
+      → expandedReply (expandSet rows zs 394752 394752) ≡ 8 ∷ 0 ∷ 0 ∷ 0 ∷ []
   pub there : (rows : List ℕ) × (zs : List ℤ) × Begins rows zs d z × (setLent rows (length zs) 394752 394752 ≡ true) × (checkReply (checkRows rows) ≡ 0 ∷ [])
+  pub alone : (row : List ℕ) (zs : List ℤ) → Raw row zs d z → expandedReply (expandAnswer 0 row zs 192 192) ≡ 8 ∷ 0 ∷ 0 ∷ 0 ∷ []
+  pub alone-there : (row : List ℕ) × (zs : List ℤ) × Raw row zs d z
 
 -- ---- the table
 pub record Table : Type 0 where
@@ -89,12 +95,17 @@ module _ (d : ℕ) (z : ℤ) (fine : barred d ≡ false) (n : ℕ) (whole : n �
   begins : Begins (rawFirst d) (replicate n z) d z
   begins = record { raw = refl; denominator = refl; first = getD-replicate n 0 z (pos 0) (subst (λ (m : ℕ). 0 < m) (sym whole) (lit< tt)) }
 
+  one-row : (row : List ℕ) × (zs : List ℤ) × Raw row zs d z
+  one-row = (rawRow d, z ∷ replicate 191 z, raw-there d z (replicate 191 z) fine (length-replicate 191 z))
+
   gives : (w : Float) → weightOf (half d) z ≡ w → refused (weightOf (half d) z) ≡ false → Gives d z w
   gives w e f = record {
     product = e;
     passes = ap refused (sym e) ∙ f;
     holds = λ rows zs straight b a. rw (done-only (expandSet rows zs 394752 394752) a) (set-first rows zs d z b ∙ e);
     there = (rawFirst d, replicate n z, begins, first-same d fine z f n whole);
+    alone = λ row zs r. first-weight row zs d z r ∙ e;
+    alone-there = one-row;
   }
 
   refuses : refused (weightOf (half d) z) ≡ true → Refuses d z
@@ -102,6 +113,8 @@ module _ (d : ℕ) (z : ℤ) (fine : barred d ≡ false) (n : ℕ) (whole : n �
     product = e;
     replies = λ rows zs b lent ok. set-refused rows zs d z b 394752 394752 lent ok e;
     there = (rawFirst d, replicate n z, begins, whole-lent (rawFirst d) (replicate n z) (headed-length (rawRow d) zeroRow refl refl) (length-replicate n z ∙ whole), first-passes d fine);
+    alone = λ row zs r. first-refused row zs d z r e;
+    alone-there = one-row;
   }
 
 pub table-holds : Table
