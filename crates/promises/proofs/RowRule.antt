@@ -2,20 +2,21 @@
 use mathlib.Core.Path.{_≡_, refl, sym, ap, _∙_}
 use mathlib.Core.Bool.{true, false}
 use mathlib.Core.List.{List, [], _∷_, _++_}
-use Prim.Native.Nat.{ℕ, zero, suc, _+_, _-_, _^_, _≤_, _<_}
+use Prim.Native.Nat.{ℕ, zero, suc, _+_, _-_, _*_, _^_, _≤_, _<_}
 use native.Mathlib.Omega.{arith}
-use lib.ListN.{length, getD, replicate, length-append, getD-replicate}
+use lib.ListN.{length, getD, drop, replicate, length-append, getD-replicate}
 use lib.Seq.{getD-append-add}
 use lib.Dec.{lit≤, lit<}
 use Rattle.bitstream.specs.Half.{barred}
 use Rattle.params.proofs.Written.{Field, bits, span, Sized, numbersOf, rowOf, Written, plain, one, two}
-use Rattle.params.specs.Allowed.{entryRow}
+use Rattle.params.specs.Allowed.{entryRow, rowAt}
 use Rattle.params.proofs.RowLaws.{shape-fits}
 use Rattle.promises.proofs.Shape.{span-append, span-numbers}
 use Rattle.params.proofs.AllowedLaws.{written-ok, ok-written, ok-long}
 use Rattle.params.specs.Row.{on, allowed, entry}
 use Rattle.record.specs.Description.{Each}
 use Rattle.record.proofs.FlatLaws.{fixed-small}
+use Rattle.record.proofs.OkLaws.{each-take, each-drop}
 use Rattle.promises.proofs.Readable.{read-written}
 
 -- every element is a 16-bit number, as in a slice of u16
@@ -25,6 +26,10 @@ Small = Each (λ v. v < 65536)
 pub small-same : (n v : ℕ) → v < 65536 → Small (replicate n v)
 small-same zero v h = tt
 small-same (suc n) v h = (h, small-same n v h)
+
+-- so a row of them
+pub small-row : (rows : List ℕ) (k : ℕ) → Small rows → Small (rowAt rows k)
+small-row rows k s = each-take (λ v. v < 65536) 128 (drop (k * 128) rows) (each-drop (λ v. v < 65536) (k * 128) rows s)
 
 small-left : (a x : List ℕ) → Small (a ++ x) → Small a
 small-left [] x s = tt

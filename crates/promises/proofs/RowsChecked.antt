@@ -19,7 +19,7 @@ use Rattle.dequant.proofs.Lent.{rows-fine}
 use Rattle.record.proofs.OkLaws.{each-take, each-drop}
 use Rattle.record.proofs.SetStores.{row-first}
 use Rattle.promises.proofs.ByNumber.{other, differs}
-use Rattle.promises.proofs.RowRule.{Small, entry-flag}
+use Rattle.promises.proofs.RowRule.{Small, small-row, entry-flag}
 use Rattle.promises.proofs.RowTheorem.{Writes, allowed-writes, writes-allowed, fails-unwritten}
 
 -- ---- by the first kind at fault
@@ -93,9 +93,6 @@ fails-at ok (suc n) h = go (fails-at ok n) (eqb (before ok n) n) (ok n) refl ref
     go r false b p q l = ⊎-elim (λ e. absurd (eqb-false (before ok n) n p e)) r (eq-or-lt-of-le (le-of-suc-le-suc l))
 
 -- ---- the ROW theorem of a set
-small-row : (rows : List ℕ) (k : ℕ) → Small rows → Small (rowAt rows k)
-small-row rows k s = each-take (λ v. v < 65536) 128 (drop (k * 128) rows) (each-drop (λ v. v < 65536) (k * 128) rows s)
-
 -- why kind k is the first at fault: slot 126 of row 0 is 1 while some mode isn't 0, and k is 0; else no reading, wherever it begins, writes its row, and one does for each kind before it
 abbrev pub Why : List ℕ → ℕ → Type 0
 Why rows k =
