@@ -47,7 +47,7 @@ near-fine z = ⊎-elim (λ e. ap (λ (z : ℤ). refused (weightOf (half 0x1004) 
 near-small : (z : ℤ) → Near z → natAbs z ≤ 65535
 near-small z = ⊎-elim (λ e. subst⁻¹ (λ (z : ℤ). natAbs z ≤ 65535) e (lit≤ tt)) (λ e. subst⁻¹ (λ (z : ℤ). natAbs z ≤ 65535) e (lit≤ tt))
 
--- are a set that is expanded
+-- a set of such samples is expanded
 near-set : (k : ℕ) → k < 17 → (zs : List ℤ) → length zs ≡ 394752 → ((i : ℕ) → i < 394752 → Near (getD zs i (pos 0))) → (s t : List Float) → length s ≡ 394752 → length t ≡ 394752 → RawSet k (rawAll 0x1004) zs s t
 near-set k h zs l near s t ls lt = record {
   expanded = ap (λ (n : ℕ). replyOf (expandSet (rawAll 0x1004) zs n (length t))) ls ∙ ap (λ (n : ℕ). replyOf (expandSet (rawAll 0x1004) zs 394752 n)) lt

@@ -13,6 +13,8 @@ pub mod ReadWritten
 pub mod Readable
 pub mod RowRule
 pub mod RowTheorem
+pub mod ReadLeaves
+pub mod ReadPasses
 pub mod Shape
 pub mod PowerBetween
 pub mod WeightBetween
@@ -46,7 +48,5 @@ pub mod RecordBack
 pub mod RecordRows
 pub mod RecordBehind
 pub mod RecordText
-pub mod RecordExamples
-pub mod ReadLeaves
-pub mod ReadPasses
 pub mod RecordShort
+pub mod RecordExamples
