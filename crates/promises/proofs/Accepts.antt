@@ -48,9 +48,9 @@ kind-passes k row zs b f =
     ∙ ap replyOf (weights-done k (weightsOf row zs k) (λ i h. let g : i < placesOf k = lt-of-lt-of-le h (le-of-eq (weights-length row zs k)) in ap refused (getD-tab (placesOf k) (λ p. weightAt row zs k (p / areaOf k) (p % areaOf k)) i nan g) ∙ f i g))
 
 -- and a raw kind where no sample times the denominator is
-pub raw-passes : (k : ℕ) (row : List ℕ) (zs : List ℤ) → rowAllowed k row ≡ true → getD row 0 0 ≡ 7
+pub raw-kind-passes : (k : ℕ) (row : List ℕ) (zs : List ℤ) → rowAllowed k row ≡ true → getD row 0 0 ≡ 7
     → ((i : ℕ) → i < placesOf k → refused (weightOf (half (getD row 3 0)) (getD zs i (pos 0))) ≡ false) → replyOf (kindAnswer row zs k) ≡ 0 ∷ []
-raw-passes k row zs ok m f =
+raw-kind-passes k row zs ok m f =
     kind-passes k row zs (ap replyOf (raw-bands row k (facts k row ok) m))
     (λ p h. ap refused (raw-at row zs k (p / areaOf k) (p % areaOf k) m ∙ ap (λ (i : ℕ). weightOf (half (getD row 3 0)) (getD zs i (pos 0))) (div-add-mod' p (areaOf k))) ∙ f p h)
 
@@ -73,7 +73,7 @@ module _ (k : ℕ) (row : List ℕ) (zs : List ℤ) (s t : ℕ) (lent : lentRigh
 
   -- a raw kind is where no sample times the denominator is
   pub raw-accepts : getD row 0 0 ≡ 7 → ((i : ℕ) → i < placesOf k → refused (weightOf (half (getD row 3 0)) (getD zs i (pos 0))) ≡ false) → replyOf (expandAnswer k row zs s t) ≡ 0 ∷ []
-  raw-accepts m f = accepts (raw-passes k row zs ok m f)
+  raw-accepts m f = accepts (raw-kind-passes k row zs ok m f)
 
 -- ---- a set
 -- rows none of which is raw need no samples

@@ -41,7 +41,7 @@ use Rattle.promises.proofs.RowsChecked.{done-fault}
 use Rattle.promises.proofs.Headed.{headed-passes}
 use Rattle.promises.proofs.ReadPasses.{default-passes}
 use Rattle.promises.proofs.Arena.{part-get}
-use Rattle.promises.proofs.Accepts.{raw-passes, accepts, bare-lent, set-accepts}
+use Rattle.promises.proofs.Accepts.{raw-kind-passes, accepts, bare-lent, set-accepts}
 use Rattle.promises.proofs.RowNumbers.{listNumber, ownList, at-place, place, inside, defaults-room}
 use Rattle.promises.proofs.Tame.{Moderate, Divisor, used, Tame, tame-passes}
 
@@ -229,7 +229,7 @@ pub mixed-set : (rows : List ℕ) (zs : List ℤ) (s t : ℕ) → setLent rows (
 mixed-set rows zs s t lent ok f =
     set-accepts rows zs s t lent ok
     (λ k h. ⊎-elim (λ m. default-accepts k (rowAt rows k) (part k zs) h (mode-at rows k ∙ m))
-    (λ r. raw-passes k (rowAt rows k) (part k zs) (rows-fine rows (done-fault rows ok .1) k h) (mode-at rows k ∙ r .0)
+    (λ r. raw-kind-passes k (rowAt rows k) (part k zs) (rows-fine rows (done-fault rows ok .1) k h) (mode-at rows k ∙ r .0)
     (λ i g. ap (λ (z : ℤ). refused (weightOf (half (getD (rowAt rows k) 3 0)) z)) (part-get k i zs (pos 0) g) ∙ r .1 i g)) (f k h))
 
 -- so is any set of rows of mode 0, whatever samples it is lent
