@@ -1,16 +1,20 @@
--- When a kind, and when a set, is accepted: no band and no weight of it is refused. Assumes nothing.
+-- When a kind by itself, and when a set, is accepted: it is lent right, its rows pass ROW, and no band and no weight of it is refused. Assumes nothing.
 use mathlib.Core.Path.{_≡_, refl, sym, ap, _∙_}
-use mathlib.Core.Bool.{Bool, true, false, cond}
-use mathlib.Core.List.{List, [], _∷_, map}
+use mathlib.Core.Bool.{Bool, true, false, not, cond}
+use mathlib.Core.List.{List, [], _∷_}
 use Prim.Native.Nat.{ℕ, zero, suc, _/_, _%_, _<_}
-use native.Mathlib.Nat.{le-of-eq, le-of-suc-le-suc, not-suc-le-zero, lt-of-lt-of-le, le-suc, lt-suc-self}
-use borrow.Author.Tests.{le-ltb}
+use native.Mathlib.Nat.{div-add-mod', le-refl, le-of-eq, le-of-suc-le-suc, lt-of-lt-of-le, le-suc, lt-suc-self}
+use native.Mathlib.Omega.{arith}
+use borrow.Author.Tests.{le-ltb, ne-eqb}
 use lib.IntN.{ℤ, pos}
-use lib.ListN.{length, getD, length-map, List·getD-map}
+use lib.ListN.{length, getD}
 use lib.Ieee.{Float, nan}
 use Rattle.transform.specs.Kinds.{areaOf, placesOf, part}
+use Rattle.transform.proofs.FirstLaws.{before-every}
 use Rattle.bitstream.specs.Half.{half}
-use Rattle.params.specs.Allowed.{rowAt, rowAllowed, checkRows, checkReply}
+use Rattle.params.specs.Allowed.{rowAt, modeAt, rowAllowed, checkRows, checkReply}
+use Rattle.params.specs.Raw.{isRaw, samplesLent}
+use Rattle.params.proofs.RawLaws.{raw-none, no-samples}
 use Rattle.bands.proofs.TableLaws.{getD-tab}
 use Rattle.matrix.specs.declared.Expanded.{Expanded}
 use Rattle.matrix.specs.declared.Expanded.the-variants.{Done, Weight}
@@ -18,12 +22,12 @@ use Rattle.matrix.specs.Mirror.{passed}
 use Rattle.matrix.specs.Raw.{weightOf, refused}
 use Rattle.matrix.specs.Numbers.{numbersOf}
 use Rattle.matrix.specs.Weight.{weightAt, weightsOf}
-use Rattle.matrix.specs.Expanded.{replyOf, orElse, bandAnswer, weightAnswer, kindAnswer, expandAnswer}
+use Rattle.matrix.specs.Expanded.{replyOf, orElse, bandAnswer, weightAnswer, lentRight, kindAnswer, expandAnswer}
 use Rattle.matrix.proofs.Lending.{all-samples, by-samples}
 use Rattle.matrix.proofs.Passed.{passed-all}
 use Rattle.promises.proofs.Places.{weights-length}
-use Rattle.matrix.proofs.RowFacts.{facts}
-use Rattle.matrix.proofs.Said.{says-kind, raw-answer, raw-meaning}
+use Rattle.matrix.proofs.RowFacts.{facts, raw-bands}
+use Rattle.matrix.proofs.Said.{says-kind, raw-at}
 use Rattle.dequant.specs.Set.{kindsAnswer, setLent, expandSet}
 use Rattle.dequant.proofs.Lent.{says-kinds}
 use Rattle.promises.proofs.ByNumber.{done-only}
@@ -34,40 +38,48 @@ weights-done : (k : ℕ) (ws : List Float) → ((i : ℕ) → i < length ws → 
 unfolding weightAnswer
 weights-done k ws f = ap (λ (b : Bool). cond b (Weight k (passed ws / areaOf k) (passed ws % areaOf k)) Done) (le-ltb (passed ws) (length ws) (le-of-eq (sym (passed-all ws f))))
 
--- a kind whose bands and weights are not refused is accepted by BAND and WEIGHT; LENT and ROW are not spoken of
-pub kind-accepts : (k : ℕ) (row : List ℕ) (zs : List ℤ) → replyOf (bandAnswer (numbersOf row k) k 3) ≡ 0 ∷ [] → ((p : ℕ) → p < placesOf k → refused (weightAt row zs k (p / areaOf k) (p % areaOf k)) ≡ false)
+-- ---- BAND and WEIGHT, which come after LENT and ROW
+-- they let a kind pass whose bands and weights are not refused
+pub kind-passes : (k : ℕ) (row : List ℕ) (zs : List ℤ) → replyOf (bandAnswer (numbersOf row k) k 3) ≡ 0 ∷ [] → ((p : ℕ) → p < placesOf k → refused (weightAt row zs k (p / areaOf k) (p % areaOf k)) ≡ false)
     → replyOf (kindAnswer row zs k) ≡ 0 ∷ []
 unfolding kindAnswer weightsOf
-kind-accepts k row zs b f =
+kind-passes k row zs b f =
     ap (λ (a : Expanded). replyOf (orElse a (weightAnswer k (weightsOf row zs k)))) (done-only (bandAnswer (numbersOf row k) k 3) b)
     ∙ ap replyOf (weights-done k (weightsOf row zs k) (λ i h. let g : i < placesOf k = lt-of-lt-of-le h (le-of-eq (weights-length row zs k)) in ap refused (getD-tab (placesOf k) (λ p. weightAt row zs k (p / areaOf k) (p % areaOf k)) i nan g) ∙ f i g))
 
--- a raw kind is accepted where no sample times the denominator is refused; for a row that passes ROW and samples of the kind's number
-pub raw-accepts : (k : ℕ) (row : List ℕ) (zs : List ℤ) → rowAllowed k row ≡ true → getD row 0 0 ≡ 7 → length zs ≡ placesOf k
+-- and a raw kind where no sample times the denominator is
+pub raw-kind-passes : (k : ℕ) (row : List ℕ) (zs : List ℤ) → rowAllowed k row ≡ true → getD row 0 0 ≡ 7
     → ((i : ℕ) → i < placesOf k → refused (weightOf (half (getD row 3 0)) (getD zs i (pos 0))) ≡ false) → replyOf (kindAnswer row zs k) ≡ 0 ∷ []
-raw-accepts k row zs ok m l f =
-    ap replyOf (sym (raw-answer k row zs (facts k row ok) m)
-    ∙ ap (weightAnswer k) (sym (raw-meaning row zs k m l))
-    ∙ weights-done k (map (weightOf (half (getD row 3 0))) zs) fine)
-  where
-    fine : (i : ℕ) → i < length (map (weightOf (half (getD row 3 0))) zs) → refused (getD (map (weightOf (half (getD row 3 0))) zs) i nan) ≡ false
-    fine i h =
-        let g : i < length zs = lt-of-lt-of-le h (le-of-eq (length-map zs (weightOf (half (getD row 3 0))))) in
-        ap refused (other (map (weightOf (half (getD row 3 0))) zs) i nan (weightOf (half (getD row 3 0)) (pos 0)) h ∙ List·getD-map (weightOf (half (getD row 3 0))) zs i (pos 0))
-        ∙ f i (lt-of-lt-of-le g (le-of-eq l))
-      where
-        other : {A : Type 0} (l : List A) (i : ℕ) (d e : A) → i < length l → getD l i d ≡ getD l i e
-        other [] i d e h = absurd (not-suc-le-zero h)
-        other (x ∷ l) zero d e h = refl
-        other (x ∷ l) (suc i) d e h = other l i d e (le-of-suc-le-suc h)
+raw-kind-passes k row zs ok m f =
+    kind-passes k row zs (ap replyOf (raw-bands row k (facts k row ok) m))
+    (λ p h. ap refused (raw-at row zs k (p / areaOf k) (p % areaOf k) m ∙ ap (λ (i : ℕ). weightOf (half (getD row 3 0)) (getD zs i (pos 0))) (div-add-mod' p (areaOf k))) ∙ f p h)
 
--- ---- one kind by itself
--- lent its row of 128, all its samples and two outputs of its places, and with ROW passed, the answer is that of BAND and WEIGHT
-pub alone : (k : ℕ) (row : List ℕ) (zs : List ℤ) → k < 17 → length row ≡ 128 → length zs ≡ placesOf k → rowAllowed k row ≡ true → expandAnswer k row zs (placesOf k) (placesOf k) ≡ kindAnswer row zs k
-alone k row zs h l m ok =
-    sym (says-kind k row zs (placesOf k) (placesOf k) (sym (by-samples k row (length zs) (placesOf k) (placesOf k) (placesOf k) refl true (le-of-suc-le-suc h) l refl refl (all-samples (length zs) (placesOf k) (getD row 0 0) m))) ok)
+-- ---- one kind by itself: `expand_kind`
+-- its row of 128, all its samples and two outputs of its places are lent right
+pub lent-alone : (k : ℕ) (row : List ℕ) (zs : List ℤ) → k < 17 → length row ≡ 128 → length zs ≡ placesOf k → lentRight k row (length zs) (placesOf k) (placesOf k) ≡ true
+lent-alone k row zs h l m =
+    sym (by-samples k row (length zs) (placesOf k) (placesOf k) (placesOf k) refl true (le-of-suc-le-suc h) l refl refl (all-samples (length zs) (placesOf k) (getD row 0 0) m))
+
+-- where LENT and ROW pass
+module _ (k : ℕ) (row : List ℕ) (zs : List ℤ) (s t : ℕ) (lent : lentRight k row (length zs) s t ≡ true) (ok : rowAllowed k row ≡ true) where
+  -- what BAND and WEIGHT let pass is accepted
+  pub accepts : replyOf (kindAnswer row zs k) ≡ 0 ∷ [] → replyOf (expandAnswer k row zs s t) ≡ 0 ∷ []
+  accepts e = ap replyOf (sym (says-kind k row zs s t lent ok)) ∙ e
+
+  -- a kind is accepted where none of its bands and weights is refused
+  pub kind-accepts : replyOf (bandAnswer (numbersOf row k) k 3) ≡ 0 ∷ [] → ((p : ℕ) → p < placesOf k → refused (weightAt row zs k (p / areaOf k) (p % areaOf k)) ≡ false)
+      → replyOf (expandAnswer k row zs s t) ≡ 0 ∷ []
+  kind-accepts b f = accepts (kind-passes k row zs b f)
+
+  -- a raw kind is where no sample times the denominator is
+  pub raw-accepts : getD row 0 0 ≡ 7 → ((i : ℕ) → i < placesOf k → refused (weightOf (half (getD row 3 0)) (getD zs i (pos 0))) ≡ false) → replyOf (expandAnswer k row zs s t) ≡ 0 ∷ []
+  raw-accepts m f = accepts (raw-kind-passes k row zs ok m f)
 
 -- ---- a set
+-- rows none of which is raw need no samples
+pub bare-lent : (rows : List ℕ) → ((k : ℕ) → k < 17 → modeAt rows k ≡ 7 → ⊥) → true ≡ samplesLent rows 0
+bare-lent rows f = no-samples rows 0 false (λ e. omega arith) (le-refl 0) (raw-none rows 17 (before-every (λ k. not (isRaw rows k)) 17 (λ k h. ap not (ne-eqb (modeAt rows k) 7 (f k h)))) (le-refl 17) (le-refl 17))
+
 -- kinds that are accepted each by itself are accepted one after the other
 pub kinds-done : (rows : List ℕ) (zs : List ℤ) (n : ℕ) → ((k : ℕ) → k < n → replyOf (kindAnswer (rowAt rows k) (part k zs) k) ≡ 0 ∷ []) → kindsAnswer rows zs n ≡ Done
 unfolding kindsAnswer

@@ -1,8 +1,11 @@
--- An answer by document 01's number of its reply: DONE names one case of each enum. Assumes nothing.
+-- An answer by document 01's number of its reply: DONE names one case of each enum, and RAW one of reading. Assumes nothing.
 use mathlib.Core.Path.{_≡_, refl, ap}
+use mathlib.Core.Bool.{false}
 use mathlib.Core.List.{List, [], _∷_}
 use Prim.Native.Nat.{ℕ, suc}
 use native.Mathlib.Omega.{arith}
+use borrow.Author.Tests.{eqb-false, ne-eqb}
+use lib.Dec.{eqb}
 use lib.ListN.{getD}
 use Rattle.params.specs.declared.read.Reading.{Reading}
 use Rattle.params.specs.declared.read.Reading.the-variants as reading
@@ -14,9 +17,13 @@ use Rattle.dequant.specs.declared.jpeg.Jpeg.{Jpeg}
 use Rattle.dequant.specs.declared.jpeg.Jpeg.the-variants as jpeg
 use Rattle.dequant.specs.Jpeg.{jpegNumbers}
 
+-- replies of two numbers are not the same
+pub differs : (a b : ℕ) (l m : List ℕ) → eqb a b ≡ false → a ∷ l ≡ b ∷ m → ⊥
+differs a b l m n e = eqb-false a b n (ap (λ (l : List ℕ). getD l 0 0) e)
+
 -- another number is not DONE's
 pub other : (n : ℕ) (l m : List ℕ) → suc n ∷ l ≡ 0 ∷ m → ⊥
-other n l m e = let z : suc n ≡ 0 = ap (λ (l : List ℕ). getD l 0 0) e in omega arith
+other n l m e = differs (suc n) 0 l m (ne-eqb (suc n) 0 (λ z. omega arith)) e
 
 -- of expanding
 pub done-only : (a : Expanded) → replyOf a ≡ 0 ∷ [] → a ≡ Done
@@ -41,3 +48,12 @@ read-done (reading.Short k p) q e = absurd (other 1 (k ∷ p ∷ []) (q ∷ []) 
 read-done (reading.Mode k p) q e = absurd (other 2 (k ∷ p ∷ []) (q ∷ []) e)
 read-done (reading.Float k p) q e = absurd (other 3 (k ∷ p ∷ []) (q ∷ []) e)
 read-done (reading.Raw k p) q e = absurd (other 4 (k ∷ p ∷ []) (q ∷ []) e)
+
+-- and with RAW's kind and next bit
+pub read-raw : (r : Reading) (k q : ℕ) → readReply r ≡ 5 ∷ k ∷ q ∷ [] → r ≡ reading.Raw k q
+read-raw (reading.Done p) k q e = absurd (differs 0 5 (p ∷ []) (k ∷ q ∷ []) refl e)
+read-raw reading.Lent k q e = absurd (differs 1 5 [] (k ∷ q ∷ []) refl e)
+read-raw (reading.Short i p) k q e = absurd (differs 2 5 (i ∷ p ∷ []) (k ∷ q ∷ []) refl e)
+read-raw (reading.Mode i p) k q e = absurd (differs 3 5 (i ∷ p ∷ []) (k ∷ q ∷ []) refl e)
+read-raw (reading.Float i p) k q e = absurd (differs 4 5 (i ∷ p ∷ []) (k ∷ q ∷ []) refl e)
+read-raw (reading.Raw i p) k q e = ap (λ (l : List ℕ). reading.Raw (getD l 1 0) (getD l 2 0)) e

@@ -1,15 +1,16 @@
 -- The default of every kind is accepted, alone and as a set: by the law of tame numbers, with the bands of the defaults tested by computation. Assumes nothing.
+use mathlib.Core.Logic.{_⊎_, inl, ⊎-elim}
 use mathlib.Core.Path.{_≡_, refl, sym, ap, _∙_, subst}
 use mathlib.Core.Bool.{Bool, true, false, cond, not, _&&_, _||_, true≢false}
-use mathlib.Core.List.{List, [], _∷_, _++_}
+use mathlib.Core.List.{List, [], _∷_}
 use Prim.Native.Nat.{ℕ, zero, suc, _+_, _*_, _^_, _≤_, _<_}
 use native.Mathlib.Nat.{le-refl, le-trans, le-of-eq, le-suc, lt-of-lt-of-le, le-of-suc-le-suc, mul-comm, mul-assoc, mul-right-comm, mul-le-mul, mul-le-mul-right, le-of-mul-le-mul-right}
 use native.Mathlib.Omega.{arith}
 use borrow.Author.Tests.{eq-eqb, le-leb}
-use lib.Dec.{T, leb, ltb, eqb, leb→le, lit<}
-use lib.IntN.{ℤ}
-use lib.ListN.{length, getD, take, drop, replicate, length-append}
-use lib.Seq.{take-at, drop-at}
+use lib.Dec.{T, leb, eqb, leb→le, lit<}
+use lib.IntN.{ℤ, pos}
+use lib.ListN.{length, getD, replicate, getD-replicate}
+use lib.Seq.{getD-set-other}
 use lib.Ieee.{Float, nan, binary32, fits, mul, add, sub, div, lt}
 use lib.Ieee.Exact.{HasValue}
 use lib.Ieee.Fits.{and-l, and-r}
@@ -19,29 +20,30 @@ use Rattle.bands.specs.Bands.{atOf, bandAt, multOf}
 use Rattle.bands.proofs.TableLaws.{getD-tab}
 use Rattle.bands.proofs.WholeUnits.{whole-number, plain}
 use Rattle.bands.proofs.Ranged.{Banded}
+use Rattle.matrix.specs.Raw.{weightOf, refused}
 use Rattle.matrix.specs.Defaults.{defaultMode}
 use Rattle.matrix.specs.Numbers.{each, readNumbers, defaultNumbers, defaultValue, numbersOf, numberOf, count, begins, bandNumber}
-use Rattle.transform.specs.First.{before}
-use Rattle.transform.proofs.FirstLaws.{before-every}
-use Rattle.transform.specs.Kinds.{placesOf, part}
-use Rattle.params.specs.Allowed.{rowAt, modeAt, rowAllowed, entryRow, flagRow, flagFault, checkRows, checkReply}
+use Rattle.transform.specs.Kinds.{placesOf, startOf, part}
+use Rattle.bitstream.specs.Half.{half}
+use Rattle.params.specs.Header.{allDefault}
+use Rattle.params.specs.Allowed.{rowAt, modeAt, checkRows, checkReply}
 use Rattle.params.proofs.FaultLaws.{allowed-entry}
 use Rattle.matrix.specs.declared.numbers.Numbers.{Numbers}
 use Rattle.matrix.specs.Expanded.{replyOf, kindAnswer, expandAnswer}
 use Rattle.matrix.specs.Views.{Shaped}
 use Rattle.matrix.proofs.Lending.{by-samples}
 use Rattle.matrix.proofs.Meaning.{default-shaped}
-use Rattle.matrix.proofs.Said.{says-kind}
-use Rattle.params.specs.Raw.{anyRaw}
 use Rattle.dequant.specs.Set.{setLent, expandSet}
-use Rattle.params.proofs.RawLaws.{no-samples}
-use Rattle.dequant.proofs.Lent.{by-samples as set-by-samples}
+use Rattle.dequant.proofs.Lent.{rows-fine, by-samples as set-by-samples}
 use Rattle.dequant.proofs.Kindwise.{mode-at}
-use Rattle.promises.proofs.RowsChecked.{rows-pass}
-use Rattle.promises.proofs.Accepts.{set-accepts}
-use Rattle.promises.proofs.RawOnes.{many, many-length, many-row, drop-more}
+use Rattle.promises.proofs.RowRule.{zeroRow, zero-entry}
+use Rattle.promises.proofs.RowsChecked.{done-fault}
+use Rattle.promises.proofs.Headed.{headed-passes}
+use Rattle.promises.proofs.ReadPasses.{default-passes}
+use Rattle.promises.proofs.Arena.{part-get}
+use Rattle.promises.proofs.Accepts.{raw-kind-passes, accepts, bare-lent, set-accepts}
 use Rattle.promises.proofs.RowNumbers.{listNumber, ownList, at-place, place, inside, defaults-room}
-use Rattle.promises.proofs.Tame.{used, Tame, tame-accepts}
+use Rattle.promises.proofs.Tame.{Moderate, Divisor, used, Tame, tame-passes}
 
 -- ---- the test: an f32 from 2 ^ -24 to 2 ^ 40; and one from 1/2 to 2
 abbrev spans : ℕ → ℕ → Float → Bool
@@ -74,10 +76,10 @@ fairTest x = spans (2 ^ 24) (2 ^ 40) x
 abbrev divisorTest : Float → Bool
 divisorTest x = spans 2 2 x
 
-fair-banded : (x : Float) → T (fairTest x) → Banded (2 ^ 125) (2 ^ 189) x
+fair-banded : (x : Float) → T (fairTest x) → Moderate x
 fair-banded x t = spans-banded (2 ^ 24) (2 ^ 40) (2 ^ 125) x refl t
 
-divisor-banded : (x : Float) → T (divisorTest x) → Banded (2 ^ 148) (2 ^ 150) x
+divisor-banded : (x : Float) → T (divisorTest x) → Divisor x
 divisor-banded x t = spans-banded 2 2 (2 ^ 148) x refl t
 
 -- ---- by computation, over the table of defaults
@@ -142,9 +144,9 @@ module _ (k : ℕ) (named : k < 17) where
   list-tested zero = and-l (bandTest k 0) (bandTest k 1) (at (λ k. bandTest k 0 && bandTest k 1) 17 bands-tested k named)
   list-tested (suc l) = and-r (bandTest k 0) (bandTest k 1) (at (λ k. bandTest k 0 && bandTest k 1) 17 bands-tested k named)
 
-  bands-fair : (l c i : ℕ) → c < 3 → i < count (defaultNumbers k) l → Banded (2 ^ 125) (2 ^ 189) (bandAt (listNumber (defaultNumbers k) l c) i)
+  bands-fair : (l c i : ℕ) → c < 3 → i < count (defaultNumbers k) l → Moderate (bandAt (listNumber (defaultNumbers k) l c) i)
   bands-fair l c i h g =
-      subst (Banded (2 ^ 125) (2 ^ 189)) (sym (band-same (listNumber (defaultNumbers k) l c) (listValue k l c) i (λ j z. list-value l c j h (native.Mathlib.Nat.lt-of-le-of-lt z g))))
+      subst Moderate (sym (band-same (listNumber (defaultNumbers k) l c) (listValue k l c) i (λ j z. list-value l c j h (native.Mathlib.Nat.lt-of-le-of-lt z g))))
       (fair-banded (bandAt (listValue k l c) i)
       (at (λ i. fairTest (bandAt (listValue k l c) i)) (count (defaultNumbers k) l) (at (λ c. below (λ i. fairTest (bandAt (listValue k l c) i)) (count (defaultNumbers k) l)) 3 (list-tested l) c h) i g))
 
@@ -161,16 +163,16 @@ module _ (k : ℕ) (named : k < 17) where
       room : (a i : ℕ) → a ≤ 18 → i < 9 → a + i < 123
       room a i h g = omega arith
 
-  numbers-fair : (c i : ℕ) → c < 3 → i < used (defaultMode k) → Banded (2 ^ 125) (2 ^ 189) (numberOf (defaultNumbers k) c i)
+  numbers-fair : (c i : ℕ) → c < 3 → i < used (defaultMode k) → Moderate (numberOf (defaultNumbers k) c i)
   numbers-fair c i h g =
-      subst (Banded (2 ^ 125) (2 ^ 189)) (sym (number-value c i h (lt-of-lt-of-le g few-used)))
+      subst Moderate (sym (number-value c i h (lt-of-lt-of-le g few-used)))
       (fair-banded (defaultValue k (c * each (defaultMode k) + i))
       (at (λ i. fairTest (defaultValue k (c * each (defaultMode k) + i))) (used (defaultMode k))
       (at (λ c. below (λ i. fairTest (defaultValue k (c * each (defaultMode k) + i))) (used (defaultMode k))) 3 (at numberTest 17 numbers-tested k named) c h) i g))
 
-  divisors-fair : 3 ≤ defaultMode k → defaultMode k ≤ 4 → (c i : ℕ) → c < 3 → i < used (defaultMode k) → Banded (2 ^ 148) (2 ^ 150) (numberOf (defaultNumbers k) c i)
+  divisors-fair : 3 ≤ defaultMode k → defaultMode k ≤ 4 → (c i : ℕ) → c < 3 → i < used (defaultMode k) → Divisor (numberOf (defaultNumbers k) c i)
   divisors-fair a b c i h g =
-      subst (Banded (2 ^ 148) (2 ^ 150)) (sym (number-value c i h (lt-of-lt-of-le g few-used)))
+      subst Divisor (sym (number-value c i h (lt-of-lt-of-le g few-used)))
       (divisor-banded (defaultValue k (c * each (defaultMode k) + i))
       (at (λ i. divisorTest (defaultValue k (c * each (defaultMode k) + i))) (used (defaultMode k))
       (at (λ c. below (λ i. divisorTest (defaultValue k (c * each (defaultMode k) + i))) (used (defaultMode k))) 3
@@ -187,9 +189,9 @@ module _ (k : ℕ) (named : k < 17) where
       value : (i : ℕ) → i < 9 → numberOf (defaultNumbers k) c i ≡ defaultValue k (c * 9 + i)
       value i g = number-value c i h g ∙ ap (λ (m : ℕ). defaultValue k (c * each m + i)) e
 
-  own-fair : defaultMode k ≡ 5 → (c i : ℕ) → c < 3 → i < 4 → Banded (2 ^ 125) (2 ^ 189) (bandAt (atOf (ownList (defaultNumbers k) c)) i)
+  own-fair : defaultMode k ≡ 5 → (c i : ℕ) → c < 3 → i < 4 → Moderate (bandAt (atOf (ownList (defaultNumbers k) c)) i)
   own-fair e c i h g =
-      subst (λ (l : List Float). Banded (2 ^ 125) (2 ^ 189) (bandAt (atOf l) i)) (sym (own-values e c h))
+      subst (λ (l : List Float). Moderate (bandAt (atOf l) i)) (sym (own-values e c h))
       (fair-banded (bandAt (atOf (ownValues k c)) i)
       (at (λ i. fairTest (bandAt (atOf (ownValues k c)) i)) 4
       (at (λ c. below (λ i. fairTest (bandAt (atOf (ownValues k c)) i)) 4) 3
@@ -207,96 +209,49 @@ default-numbers row k e = ap (λ (m : ℕ). cond (eqb m 0) (defaultNumbers k) (r
 -- a row of mode 0: BAND and WEIGHT let every kind's default pass, whatever samples are lent
 pub default-accepts : (k : ℕ) (row : List ℕ) (zs : List ℤ) → k < 17 → getD row 0 0 ≡ 0 → replyOf (kindAnswer row zs k) ≡ 0 ∷ []
 default-accepts k row zs h e =
-    tame-accepts k row zs (subst (λ (n : Numbers). Shaped n k) (sym (default-numbers row k e)) (default-shaped k h)) (subst Tame (sym (default-numbers row k e)) (default-tame k h))
-
-abbrev pub zeroRow : List ℕ
-zeroRow = replicate 128 0
-
-zero-allowed : (k : ℕ) → k < 17 → rowAllowed k zeroRow ≡ true
-zero-allowed k h = sym (allowed-entry k zeroRow (le-of-suc-le-suc h) (unfold entryRow in refl))
+    tame-passes k row zs (subst (λ (n : Numbers). Shaped n k) (sym (default-numbers row k e)) (default-shaped k h)) (subst Tame (sym (default-numbers row k e)) (default-tame k h))
 
 -- the default of every kind by itself, lent no samples and two outputs of its places, answers DONE
 pub default-done : (k : ℕ) → k < 17 → replyOf (expandAnswer k zeroRow [] (placesOf k) (placesOf k)) ≡ 0 ∷ []
 default-done k h =
-    sym (ap replyOf (says-kind k zeroRow [] (placesOf k) (placesOf k) (sym (by-samples k zeroRow 0 (placesOf k) (placesOf k) (placesOf k) refl true (le-of-suc-le-suc h) refl refl refl (sym (always (eqb 0 (placesOf k)))))) (zero-allowed k h)))
-    ∙ default-accepts k zeroRow [] h refl
+    accepts k zeroRow [] (placesOf k) (placesOf k) (sym (by-samples k zeroRow 0 (placesOf k) (placesOf k) (placesOf k) refl true (le-of-suc-le-suc h) refl refl refl (sym (always (eqb 0 (placesOf k))))))
+    (sym (allowed-entry k zeroRow (le-of-suc-le-suc h) (zero-entry k h))) (default-accepts k zeroRow [] h refl)
   where
     always : (b : Bool) → (b || true) ≡ true
     always true = refl
     always false = refl
 
 -- ---- a set
--- any set of rows of mode 0 that passes LENT and ROW is accepted, whatever samples it is lent
+-- a set that passes LENT and ROW is accepted where each kind is of mode 0, or raw with no sample times its denominator refused
+pub mixed-set : (rows : List ℕ) (zs : List ℤ) (s t : ℕ) → setLent rows (length zs) s t ≡ true → checkReply (checkRows rows) ≡ 0 ∷ []
+    → ((k : ℕ) → k < 17 → (modeAt rows k ≡ 0) ⊎ ((modeAt rows k ≡ 7) × ((i : ℕ) → i < placesOf k → refused (weightOf (half (getD (rowAt rows k) 3 0)) (getD zs (startOf k + i) (pos 0))) ≡ false)))
+    → replyOf (expandSet rows zs s t) ≡ 0 ∷ []
+mixed-set rows zs s t lent ok f =
+    set-accepts rows zs s t lent ok
+    (λ k h. ⊎-elim (λ m. default-accepts k (rowAt rows k) (part k zs) h (mode-at rows k ∙ m))
+    (λ r. raw-kind-passes k (rowAt rows k) (part k zs) (rows-fine rows (done-fault rows ok .1) k h) (mode-at rows k ∙ r .0)
+    (λ i g. ap (λ (z : ℤ). refused (weightOf (half (getD (rowAt rows k) 3 0)) z)) (part-get k i zs (pos 0) g) ∙ r .1 i g)) (f k h))
+
+-- so is any set of rows of mode 0, whatever samples it is lent
 pub default-set : (rows : List ℕ) (zs : List ℤ) (s t : ℕ) → setLent rows (length zs) s t ≡ true → checkReply (checkRows rows) ≡ 0 ∷ [] → ((k : ℕ) → k < 17 → modeAt rows k ≡ 0)
     → replyOf (expandSet rows zs s t) ≡ 0 ∷ []
-default-set rows zs s t lent ok f = set-accepts rows zs s t lent ok (λ k h. default-accepts k (rowAt rows k) (part k zs) h (mode-at rows k ∙ f k h))
+default-set rows zs s t lent ok f = mixed-set rows zs s t lent ok (λ k h. inl (f k h))
 
--- a first row, and 16 of zeros behind it
-abbrev pub headed : List ℕ → List ℕ
-headed first = first ++ many 16 zeroRow
+-- lent no samples and two arenas
+bare-set : (rows : List ℕ) → checkReply (checkRows rows) ≡ 0 ∷ [] → ((k : ℕ) → k < 17 → modeAt rows k ≡ 0) → replyOf (expandSet rows [] 394752 394752) ≡ 0 ∷ []
+bare-set rows ok f =
+    default-set rows [] 394752 394752 (sym (set-by-samples rows 0 394752 394752 true (done-fault rows ok .0) refl refl (bare-lent rows (λ k h e. omega (arith, f k h))))) ok f
 
-module _ (first : List ℕ) (long : length first ≡ 128) where
-  headed-row : (k : ℕ) → k < 16 → rowAt (headed first) (suc k) ≡ zeroRow
-  headed-row k h =
-      ap (take 128) (ap (λ (a : ℕ). drop a (first ++ many 16 zeroRow)) (next k) ∙ drop-more 128 (k * 128) (first ++ many 16 zeroRow) ∙ ap (drop (k * 128)) (drop-at first (many 16 zeroRow) 128 long))
-      ∙ many-row 16 k zeroRow refl h
-    where
-      next : (k : ℕ) → suc k * 128 ≡ 128 + k * 128
-      next k = omega arith
-
-  pub headed-first : rowAt (headed first) 0 ≡ first
-  headed-first = take-at first (many 16 zeroRow) 128 long
-
-  -- the 16 behind it are of mode 0
-  pub headed-mode : (k : ℕ) → suc k < 17 → modeAt (headed first) (suc k) ≡ 0
-  headed-mode k h = sym (mode-at (headed first) (suc k)) ∙ ap (λ (l : List ℕ). getD l 0 0) (headed-row k (le-of-suc-le-suc h))
-
-  -- all 17 pass ROW where the first does
-  pub headed-allowed : rowAllowed 0 first ≡ true → (k : ℕ) → k < 17 → rowAllowed k (rowAt (headed first) k) ≡ true
-  headed-allowed fine zero h = ap (rowAllowed 0) headed-first ∙ fine
-  headed-allowed fine (suc k) h = ap (rowAllowed (suc k)) (headed-row k (le-of-suc-le-suc h)) ∙ zero-allowed (suc k) h
-
-  pub headed-length : length (headed first) ≡ 2176
-  headed-length = length-append first (many 16 zeroRow) ∙ ap (λ (a : ℕ). a + length (many 16 zeroRow)) long ∙ ap (λ (a : ℕ). 128 + a) (many-length 16 zeroRow refl)
-
-module _ (first : List ℕ) (long : length first ≡ 128) (mode : getD first 0 0 ≡ 0) (fine : rowAllowed 0 first ≡ true) where
-  rows-mode : (k : ℕ) → k < 17 → modeAt (headed first) k ≡ 0
-  rows-mode zero h = sym (mode-at (headed first) 0) ∙ ap (λ (l : List ℕ). getD l 0 0) (headed-first first long) ∙ mode
-  rows-mode (suc k) h = headed-mode first long k h
-
-  modes-every : before (λ kind. eqb (modeAt (headed first) kind) 0) 17 ≡ 17
-  modes-every = before-every (λ kind. eqb (modeAt (headed first) kind) 0) 17 (λ k h. eq-eqb (modeAt (headed first) k) 0 (rows-mode k h))
-
-  no-flag : flagFault (headed first) ≡ false
-  unfolding flagFault
-  no-flag = ap (λ (n : ℕ). eqb (getD (headed first) 126 0) 1 && ltb n 17) modes-every ∙ and-false (eqb (getD (headed first) 126 0) 1)
-    where
-      and-false : (b : Bool) → (b && false) ≡ false
-      and-false true = refl
-      and-false false = refl
-
-  not-raw-rows : anyRaw (headed first) ≡ false
-  unfolding anyRaw
-  not-raw-rows = ap (λ (n : ℕ). ltb n 17) (before-every (λ k. not (eqb (modeAt (headed first) k) 7)) 17 (λ k h. ap (λ (m : ℕ). not (eqb m 7)) (rows-mode k h)))
-
-  rows-lent : setLent (headed first) 0 394752 394752 ≡ true
-  rows-lent = sym (set-by-samples (headed first) 0 394752 394752 true (headed-length first long) refl refl (no-samples (headed first) 0 false (λ z. omega arith) (le-refl 0) (sym not-raw-rows)))
-
-  -- a set whose first row is of mode 0 and passes ROW, with 16 rows of zeros behind it, answers DONE
-  pub headed-done : replyOf (expandSet (headed first) [] 394752 394752) ≡ 0 ∷ []
-  headed-done = default-set (headed first) [] 394752 394752 rows-lent (rows-pass (headed first) (headed-length first long) no-flag (headed-allowed first long fine)) rows-mode
-
-abbrev pub flaggedRow : List ℕ
-flaggedRow = replicate 126 0 ++ 1 ∷ 0 ∷ []
-
-flag-allowed : rowAllowed 0 flaggedRow ≡ true
-unfolding rowAllowed entryRow flagRow
-flag-allowed = refl
-
--- the 17 rows all zero, as 17 entries of mode 0 write them, lent no samples and two arenas, answer DONE
-pub zero-set-done : replyOf (expandSet (headed zeroRow) [] 394752 394752) ≡ 0 ∷ []
-zero-set-done = headed-done zeroRow refl refl (zero-allowed 0 (lit< tt))
+-- 17 rows of zeros, as 17 entries of mode 0 write them, answer DONE
+pub zero-set-done : replyOf (expandSet (replicate 2176 0) [] 394752 394752) ≡ 0 ∷ []
+zero-set-done = bare-set (replicate 2176 0) (headed-passes zeroRow zeroRow refl refl (zero-entry 0 (lit< tt)) (λ k h. zero-entry (suc k) h)) modes
+  where
+    modes : (k : ℕ) → k < 17 → modeAt (replicate 2176 0) k ≡ 0
+    modes k h = getD-replicate 2176 (k * 128) 0 0 (omega arith)
 
 -- and so do the rows that the flag of an all-default set writes: slot 126 of row 0 is 1, all else 0
-pub flag-set-done : replyOf (expandSet (headed flaggedRow) [] 394752 394752) ≡ 0 ∷ []
-flag-set-done = headed-done flaggedRow refl refl flag-allowed
+pub flag-set-done : replyOf (expandSet allDefault [] 394752 394752) ≡ 0 ∷ []
+flag-set-done = bare-set allDefault default-passes modes
+  where
+    modes : (k : ℕ) → k < 17 → modeAt allDefault k ≡ 0
+    modes k h = getD-set-other {A = ℕ} (replicate 2176 0) 126 (k * 128) 1 0 (λ e. omega arith) ∙ getD-replicate 2176 (k * 128) 0 0 (omega arith)

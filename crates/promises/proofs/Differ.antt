@@ -4,8 +4,7 @@ use mathlib.Core.Path.{_≡_, sym, _∙_, subst}
 use mathlib.Core.List.{List, [], _∷_}
 use Prim.Native.Nat.{ℕ, _+_, _*_, _^_, _≤_, _<_}
 use lib.IntN.{ℤ, pos, natAbs}
-use lib.ListN.{length, getD, drop}
-use lib.Seq.{getD-take, getD-drop}
+use lib.ListN.{length, getD}
 use lib.Ieee.{Float, nan}
 use Rattle.transform.specs.Kinds.{widthOf, heightOf, placesOf, startOf, part}
 use Rattle.params.specs.Allowed.{rowAt, modeAt}
@@ -18,6 +17,7 @@ use Rattle.dequant.specs.declared.shown.Order.the-variants.{Unnamed, Straight, 
 use Rattle.dequant.specs.Set.{straightArena, transposedArena, expandSet}
 use Rattle.dequant.specs.Shown.{shown}
 use Rattle.dequant.proofs.Kindwise.{mode-at}
+use Rattle.promises.proofs.Arena.{part-get}
 use Rattle.promises.proofs.AcceptedSet.{kind-done}
 use Rattle.promises.proofs.Shows.{in-straight, in-transposed, shown-straight, shown-unnamed, shown-transposed}
 
@@ -33,7 +33,7 @@ module _ (k c y x : ℕ) (hk : k < 17) (hc : c < 3) (hy : y < heightOf k) (hx : 
   sampleOf zs = getD zs (startOf k + straightPlace k c y x) (pos 0)
 
   own-sample : (zs : List ℤ) → getD (part k zs) (straightPlace k c y x) (pos 0) ≡ sampleOf zs
-  own-sample zs = getD-take (placesOf k) (drop (startOf k) zs) (straightPlace k c y x) (pos 0) (straight-in k c y x hc hy hx) ∙ getD-drop (startOf k) zs (straightPlace k c y x) (pos 0)
+  own-sample zs = part-get k (straightPlace k c y x) zs (pos 0) (straight-in k c y x hc hy hx)
 
   module _ (rows rows' : List ℕ) (us vs : List ℤ) (s t s' t' : List Float) (p : RawSet k rows us s t) (q : RawSet k rows' vs s' t')
       (same : getD (rowAt rows k) 3 0 ≡ getD (rowAt rows' k) 3 0) (differ : sampleOf us ≡ sampleOf vs → ⊥) where

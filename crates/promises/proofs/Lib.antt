@@ -2,10 +2,10 @@
 pub mod Coincide
 pub mod ByNumber
 pub mod RowsChecked
+pub mod Headed
 pub mod RowNumbers
 pub mod RowRatios
 pub mod Accepts
-pub mod RawOnes
 pub mod KindLaws
 pub mod Longest
 pub mod LongestReached
@@ -13,11 +13,14 @@ pub mod ReadWritten
 pub mod Readable
 pub mod RowRule
 pub mod RowTheorem
+pub mod ReadLeaves
+pub mod ReadPasses
 pub mod Shape
 pub mod PowerBetween
 pub mod WeightBetween
 pub mod Tame
 pub mod DefaultsAccepted
+pub mod RawOnes
 pub mod Steps
 pub mod OnlyJpeg
 pub mod Strict
@@ -29,6 +32,7 @@ pub mod Arena
 pub mod AcceptedSet
 pub mod Shows
 pub mod Differ
+pub mod DifferThere
 pub mod JpegPart
 pub mod FirstWeight
 pub mod JpegNumbers
@@ -44,4 +48,5 @@ pub mod RecordBack
 pub mod RecordRows
 pub mod RecordBehind
 pub mod RecordText
+pub mod RecordShort
 pub mod RecordExamples

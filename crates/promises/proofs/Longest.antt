@@ -2,7 +2,7 @@
 use mathlib.Core.Path.{_≡_, refl, ap}
 use mathlib.Core.Bool.{Bool, true, false, not, _&&_, _||_, cond}
 use mathlib.Core.List.{List, [], _∷_}
-use Prim.Native.Nat.{ℕ, zero, suc, _+_, _*_, _≤_}
+use Prim.Native.Nat.{ℕ, zero, suc, _+_, _*_, _≤_, _<_}
 use native.Mathlib.Omega.{arith}
 use lib.ListN.{length, getD, set, replicate}
 use lib.Dec.{lit≤, leb, eqb}
@@ -61,12 +61,24 @@ unfolding bandLists
 lists-bits b zero i h = omega arith
 lists-bits b (suc n) i h = omega (arith, lists-bits b n (i + 1) (bandList b i h), list-bits b i h)
 
+-- the kinds that modes 1 to 5 are for
+abbrev pub rich : ℕ → Bool
+rich kind = leb kind 3 || (eqb kind 9 || eqb kind 10)
+
+-- they have every mode
+pub rich-allowed : (kind m : ℕ) → kind < 17 → m < 8 → rich kind ≡ true → allowed kind m ≡ true
+rich-allowed kind m h g e = go (leb 1 m && leb m 5)
+  where
+    go : (t : Bool) → not t || rich kind ≡ true
+    go true = e
+    go false = refl
+
 -- how long a kind's entry can be
 abbrev longest : ℕ → ℕ
-longest kind = cond (leb kind 3 || (eqb kind 9 || eqb kind 10)) 1979 775
+longest kind = cond (rich kind) 1979 775
 
-shape-bits : (kind m : ℕ) → allowed kind m ≡ true → 3 + 16 * fixed m + 772 * lists m ≤ longest kind
-shape-bits kind m = go (leb kind 3 || (eqb kind 9 || eqb kind 10)) m
+pub shape-bits : (kind m : ℕ) → allowed kind m ≡ true → 3 + 16 * fixed m + 772 * lists m ≤ cond (rich kind) 1979 775
+shape-bits kind m = go (rich kind) m
   where
     go : (t : Bool) (m : ℕ) → not (leb 1 m && leb m 5) || t ≡ true → 3 + 16 * fixed m + 772 * lists m ≤ cond t 1979 775
     go true zero e = lit≤ tt

@@ -13,18 +13,18 @@ use Rattle.matrix.specs.Raw.{weightOf, refused}
 use Rattle.bands.proofs.TableLaws.{getD-tab}
 
 -- 99,959,104 is 1,561,861 x 2 ^ 6, and 99,999,992 is 12,499,999 x 2 ^ 3
-pub p10 : (weightOf (half 31743) (pos 1526) ≡ fin false 1561861 (pos 6)) × (refused (weightOf (half 31743) (pos 1526)) ≡ false) × (refused (weightOf (half 31743) (pos 1527)) ≡ true)
+pub p10 : (weightOf (half 0x7bff) (pos 1526) ≡ fin false 1561861 (pos 6)) × (refused (weightOf (half 0x7bff) (pos 1526)) ≡ false) × (refused (weightOf (half 0x7bff) (pos 1527)) ≡ true)
 unfolding weightOf refused half round mul ofInt le ne
 p10 = (refl, refl, refl)
 
-pub p11 : (weightOf (half 15360) (pos 99999995) ≡ fin false 12499999 (pos 3)) × (refused (weightOf (half 15360) (pos 99999995)) ≡ false) × (refused (weightOf (half 15360) (pos 99999996)) ≡ true)
+pub p11 : (weightOf (half 0x3c00) (pos 99999995) ≡ fin false 12499999 (pos 3)) × (refused (weightOf (half 0x3c00) (pos 99999995)) ≡ false) × (refused (weightOf (half 0x3c00) (pos 99999996)) ≡ true)
 unfolding weightOf refused half round mul ofInt le ne
 p11 = (refl, refl, refl)
 
 -- 257 / 2 ^ 15
-pub p12 : weightOf (half 4100) (pos 16) ≡ fin false 257 (negsuc 14)
-unfolding weightOf half round mul ofInt
-p12 = refl
+pub p12 : (weightOf (half 0x1004) (pos 16) ≡ fin false 257 (negsuc 14)) × (refused (weightOf (half 0x1004) (pos 16)) ≡ false)
+unfolding weightOf refused half round mul ofInt le ne
+p12 = (refl, refl)
 
 -- of kind 6, 16 wide and 8 high: row 1, column 1 and row 0, column 1
 pub p13-places : (straightPlace 6 0 1 1 ≡ 17) × (transposedPlace 6 0 1 1 ≡ 9) × (straightPlace 6 0 0 1 ≡ 1) × (transposedPlace 6 0 0 1 ≡ 8)

@@ -1,114 +1,112 @@
--- Not everything is refused: raw kinds of denominator 3c00, which is 1, with all samples 1 are accepted, each kind by itself and all 17 as a set. Assumes nothing.
+-- Sets with raw kinds that are accepted: row 0 raw and 16 defaults behind it, and all 17 raw. So not everything is refused: all samples 1 at the denominator 3c00, which is 1,
+-- are accepted, each kind by itself and all 17 as a set. Assumes nothing.
 use mathlib.Core.Path.{_≡_, refl, sym, ap, _∙_}
-use mathlib.Core.Bool.{Bool, true, false, not, _&&_}
-use mathlib.Core.List.{List, [], _∷_, _++_}
-use Prim.Native.Nat.{ℕ, zero, suc, _+_, _*_, _≤_, _<_}
-use native.Mathlib.Nat.{le-of-eq, le-of-suc-le-suc, not-suc-le-zero, lt-of-lt-of-le}
+use mathlib.Core.Bool.{true, false}
+use mathlib.Core.Logic.{_⊎_, inl, inr}
+use mathlib.Core.List.{List, [], _∷_}
+use Prim.Native.Nat.{ℕ, zero, suc, _+_, _≤_, _<_}
+use native.Mathlib.Nat.{le-of-eq, le-of-suc-le-suc, lt-of-lt-of-le}
 use native.Mathlib.Omega.{arith}
+use lib.Dec.{lit≤, lit<}
 use lib.IntN.{ℤ, pos}
-use lib.ListN.{length, getD, take, drop, replicate, length-append, length-replicate, getD-replicate}
-use lib.Seq.{take-at, drop-at, getD-take, getD-drop}
+use lib.ListN.{length, getD, replicate, length-replicate, getD-replicate}
 use lib.Ieee.{round, mul, ofInt, le, ne}
-use Rattle.transform.specs.Kinds.{placesOf, startOf, part}
+use Rattle.transform.specs.Kinds.{placesOf, startOf}
 use Rattle.transform.proofs.Laws.{end-le}
 use Rattle.bitstream.specs.Half.{half, barred}
-use Rattle.params.specs.Allowed.{rowAt, rowAllowed, entryRow, flagFault}
+use Rattle.params.specs.Allowed.{rowAt, modeAt, rowAllowed, checkRows, checkReply}
 use Rattle.params.proofs.FaultLaws.{allowed-entry}
 use Rattle.matrix.specs.Raw.{weightOf, refused}
-use Rattle.matrix.specs.Expanded.{replyOf, kindAnswer, expandAnswer}
-use Rattle.dequant.specs.Set.{expandSet}
+use Rattle.matrix.specs.Expanded.{replyOf, expandAnswer}
+use Rattle.dequant.specs.Set.{setLent, expandSet}
 use Rattle.params.proofs.RawLaws.{all-samples}
 use Rattle.dequant.proofs.Lent.{by-samples}
-use Rattle.dequant.proofs.Kindwise.{part-length}
-use Rattle.promises.proofs.RowsChecked.{rows-pass}
-use Rattle.promises.proofs.Accepts.{raw-accepts, alone, set-accepts}
+use Rattle.dequant.proofs.Kindwise.{mode-at}
+use Rattle.promises.proofs.RowRule.{zeroRow, zero-entry, rawRow, raw-entry}
+use Rattle.promises.proofs.Headed.{headed, headed-first, headed-row, headed-length, headed-passes}
+use Rattle.promises.proofs.Accepts.{lent-alone, raw-accepts}
+use Rattle.promises.proofs.DefaultsAccepted.{mixed-set}
 
--- a raw row of a denominator
-abbrev pub rawRow : ℕ → List ℕ
-rawRow d = 7 ∷ 0 ∷ 0 ∷ d ∷ replicate 124 0
-
--- it passes ROW for every kind, if reading lets the denominator pass
+-- a raw row passes ROW for every kind, if reading lets its denominator pass
 pub raw-allowed : (k d : ℕ) → k < 17 → barred d ≡ false → rowAllowed k (rawRow d) ≡ true
-unfolding entryRow
-raw-allowed k d h e = sym (allowed-entry k (rawRow d) (le-of-suc-le-suc h) (ap (λ (b : Bool). (not b && true) && true) e))
+raw-allowed k d h e = sym (allowed-entry k (rawRow d) (le-of-suc-le-suc h) (raw-entry k d h e))
 
--- a raw row of denominator 1
-abbrev pub oneRow : List ℕ
-oneRow = rawRow 0x3c00
+-- row 0 raw of a denominator, and 16 rows of zeros behind it; and all 17 raw of it
+abbrev pub rawFirst : ℕ → List ℕ
+rawFirst d = headed (rawRow d) zeroRow
 
--- n rows, one after the other, all the same
-abbrev pub many : ℕ → List ℕ → List ℕ
-many zero row = []
-many (suc n) row = row ++ many n row
+abbrev pub rawAll : ℕ → List ℕ
+rawAll d = headed (rawRow d) (rawRow d)
 
--- they are 128 numbers each
-pub many-length : (n : ℕ) (row : List ℕ) → length row ≡ 128 → length (many n row) ≡ n * 128
-many-length zero row l = refl
-many-length (suc n) row l = length-append row (many n row) ∙ ap (λ (a : ℕ). a + length (many n row)) l ∙ ap (λ (a : ℕ). 128 + a) (many-length n row l) ∙ sum n
+-- 2,176 numbers with 394,752 samples and two arenas pass LENT
+pub whole-lent : (rows : List ℕ) (zs : List ℤ) → length rows ≡ 2176 → length zs ≡ 394752 → setLent rows (length zs) 394752 394752 ≡ true
+whole-lent rows zs l m = sym (by-samples rows (length zs) 394752 394752 true l refl refl (all-samples rows (length zs) m))
+
+-- a place of a kind's part lies in the arena
+pub in-arena : (k p : ℕ) → p < placesOf k → startOf k + p < 394752
+in-arena k p h = go (startOf k) (placesOf k) (end-le k) h
   where
-    sum : (n : ℕ) → 128 + n * 128 ≡ suc n * 128
-    sum n = omega arith
+    go : (a b : ℕ) → a + b ≤ 394752 → p < b → a + p < 394752
+    go a b e g = omega arith
 
--- dropping in two steps
-pub drop-more : (a b : ℕ) (l : List ℕ) → drop (a + b) l ≡ drop b (drop a l)
-drop-more zero b l = ap (λ (n : ℕ). drop n l) (native.Mathlib.Nat.zero-add b)
-drop-more (suc a) b [] = ap (λ (n : ℕ). drop n []) (native.Mathlib.Nat.suc-add a b) ∙ sym (lib.Seq.drop-nil b)
-drop-more (suc a) b (x ∷ l) = ap (λ (n : ℕ). drop n (x ∷ l)) (native.Mathlib.Nat.suc-add a b) ∙ drop-more a b l
+first-fits : placesOf 0 ≤ 394752
+unfolding placesOf
+first-fits = lit≤ tt
 
--- each of them is that row
-pub many-row : (n k : ℕ) (row : List ℕ) → length row ≡ 128 → k < n → rowAt (many n row) k ≡ row
-many-row zero k row l h = absurd (not-suc-le-zero h)
-many-row (suc n) zero row l h = take-at row (many n row) 128 l
-many-row (suc n) (suc k) row l h =
-    ap (take 128) (ap (λ (a : ℕ). drop a (row ++ many n row)) (next k) ∙ drop-more 128 (k * 128) (row ++ many n row) ∙ ap (drop (k * 128)) (drop-at row (many n row) 128 l))
-    ∙ many-row n k row l (le-of-suc-le-suc h)
-  where
-    next : (k : ℕ) → suc k * 128 ≡ 128 + k * 128
-    next k = omega arith
+module _ (d : ℕ) (fine : barred d ≡ false) where
+  -- they pass ROW
+  pub first-passes : checkReply (checkRows (rawFirst d)) ≡ 0 ∷ []
+  first-passes = headed-passes (rawRow d) zeroRow refl refl (raw-entry 0 d (lit< tt) fine) (λ k h. zero-entry (suc k) h)
 
-one-allowed : (k : ℕ) → k < 17 → rowAllowed k oneRow ≡ true
-one-allowed k h = raw-allowed k 0x3c00 h refl
+  all-passes : checkReply (checkRows (rawAll d)) ≡ 0 ∷ []
+  all-passes = headed-passes (rawRow d) (rawRow d) refl refl (raw-entry 0 d (lit< tt) fine) (λ k h. raw-entry (suc k) d h fine)
 
+  pub all-rows : (k : ℕ) → k < 17 → rowAt (rawAll d) k ≡ rawRow d
+  all-rows zero h = headed-first (rawRow d) (rawRow d) refl refl
+  all-rows (suc k) h = headed-row (rawRow d) (rawRow d) refl refl k h
+
+  module _ (zs : List ℤ) (long : length zs ≡ 394752) where
+    -- and are accepted where no sample of a raw kind times the denominator is refused
+    pub first-done : ((i : ℕ) → i < placesOf 0 → refused (weightOf (half d) (getD zs i (pos 0))) ≡ false) → replyOf (expandSet (rawFirst d) zs 394752 394752) ≡ 0 ∷ []
+    unfolding startOf
+    first-done f = mixed-set (rawFirst d) zs 394752 394752 (whole-lent (rawFirst d) zs (headed-length (rawRow d) zeroRow refl refl) long) first-passes each
+      where
+        each : (k : ℕ) → k < 17 → (modeAt (rawFirst d) k ≡ 0) ⊎ ((modeAt (rawFirst d) k ≡ 7) × ((i : ℕ) → i < placesOf k → refused (weightOf (half (getD (rowAt (rawFirst d) k) 3 0)) (getD zs (startOf k + i) (pos 0))) ≡ false))
+        each zero h = inr (refl, λ i g. let z : 0 + i ≡ i = omega arith in ap (λ (j : ℕ). refused (weightOf (half d) (getD zs j (pos 0)))) z ∙ f i g)
+        each (suc k) h = inl (sym (mode-at (rawFirst d) (suc k)) ∙ ap (λ (r : List ℕ). getD r 0 0) (headed-row (rawRow d) zeroRow refl refl k h))
+
+    pub all-done : ((i : ℕ) → i < 394752 → refused (weightOf (half d) (getD zs i (pos 0))) ≡ false) → replyOf (expandSet (rawAll d) zs 394752 394752) ≡ 0 ∷ []
+    all-done f =
+        mixed-set (rawAll d) zs 394752 394752 (whole-lent (rawAll d) zs (headed-length (rawRow d) (rawRow d) refl refl) long) all-passes
+        (λ k h. inr (
+          sym (mode-at (rawAll d) k) ∙ ap (λ (r : List ℕ). getD r 0 0) (all-rows k h),
+          λ i g. ap (λ (r : List ℕ). refused (weightOf (half (getD r 3 0)) (getD zs (startOf k + i) (pos 0)))) (all-rows k h) ∙ f (startOf k + i) (in-arena k i g),
+        ))
+
+  -- so where all n samples are the same one; n is 394,752
+  module _ (z : ℤ) (ok : refused (weightOf (half d) z) ≡ false) (n : ℕ) (whole : n ≡ 394752) where
+    same-fine : (i : ℕ) → i < 394752 → refused (weightOf (half d) (getD (replicate n z) i (pos 0))) ≡ false
+    same-fine i h = ap (λ (x : ℤ). refused (weightOf (half d) x)) (getD-replicate n i z (pos 0) (lt-of-lt-of-le h (le-of-eq (sym whole)))) ∙ ok
+
+    pub first-same : replyOf (expandSet (rawFirst d) (replicate n z) 394752 394752) ≡ 0 ∷ []
+    first-same = first-done (replicate n z) (length-replicate n z ∙ whole) (λ i h. same-fine i (lt-of-lt-of-le h first-fits))
+
+    pub all-same : replyOf (expandSet (rawAll d) (replicate n z) 394752 394752) ≡ 0 ∷ []
+    all-same = all-done (replicate n z) (length-replicate n z ∙ whole) same-fine
+
+-- ---- all samples 1 at the denominator 1
 -- 1 times 1 is a weight that is not refused
 one-fine : refused (weightOf (half 0x3c00) (pos 1)) ≡ false
 unfolding weightOf refused half round mul ofInt le ne
 one-fine = refl
 
--- any samples that are all 1
-ones-accepted : (k : ℕ) (zs : List ℤ) → k < 17 → length zs ≡ placesOf k → ((i : ℕ) → i < placesOf k → getD zs i (pos 0) ≡ pos 1) → replyOf (kindAnswer oneRow zs k) ≡ 0 ∷ []
-ones-accepted k zs h l f = raw-accepts k oneRow zs (one-allowed k h) refl l (λ i g. ap (λ (z : ℤ). refused (weightOf (half 0x3c00) z)) (f i g) ∙ one-fine)
-
 -- each kind by itself, lent its row, 3 x width x height samples of 1 and two outputs of that length, answers DONE
-pub ones-done : (k : ℕ) → k < 17 → replyOf (expandAnswer k oneRow (replicate (placesOf k) (pos 1)) (placesOf k) (placesOf k)) ≡ 0 ∷ []
+pub ones-done : (k : ℕ) → k < 17 → replyOf (expandAnswer k (rawRow 0x3c00) (replicate (placesOf k) (pos 1)) (placesOf k) (placesOf k)) ≡ 0 ∷ []
 ones-done k h =
-    ap replyOf (alone k oneRow (replicate (placesOf k) (pos 1)) h refl (length-replicate (placesOf k) (pos 1)) (one-allowed k h))
-    ∙ ones-accepted k (replicate (placesOf k) (pos 1)) h (length-replicate (placesOf k) (pos 1)) (λ i g. getD-replicate (placesOf k) i (pos 1) (pos 0) g)
-
--- ---- the set
-no-flag : flagFault (many 17 oneRow) ≡ false
-unfolding flagFault
-no-flag = refl
-
--- a kind's samples, where all are the same
-pub part-at : (k i : ℕ) (z : ℤ) (zs : List ℤ) → ((i : ℕ) → i < 394752 → getD zs i (pos 0) ≡ z) → i < placesOf k → getD (part k zs) i (pos 0) ≡ z
-part-at k i z zs f h =
-    getD-take (placesOf k) (drop (startOf k) zs) i (pos 0) h
-    ∙ getD-drop (startOf k) zs i (pos 0)
-    ∙ f (startOf k + i) (under (startOf k) (placesOf k) i h (end-le k))
-  where
-    under : (a b i : ℕ) → i < b → a + b ≤ 394752 → a + i < 394752
-    under a b i h g = omega arith
-
-set-of-ones : (zs : List ℤ) → length zs ≡ 394752 → ((i : ℕ) → i < 394752 → getD zs i (pos 0) ≡ pos 1) → replyOf (expandSet (many 17 oneRow) zs 394752 394752) ≡ 0 ∷ []
-set-of-ones zs l f =
-    set-accepts (many 17 oneRow) zs 394752 394752
-    (sym (by-samples (many 17 oneRow) (length zs) 394752 394752 true (many-length 17 oneRow refl) refl refl (all-samples (many 17 oneRow) (length zs) l)))
-    (rows-pass (many 17 oneRow) (many-length 17 oneRow refl) no-flag (λ k h. ap (rowAllowed k) (many-row 17 k oneRow refl h) ∙ one-allowed k h))
-    (λ k h. ap (λ (row : List ℕ). replyOf (kindAnswer row (part k zs) k)) (many-row 17 k oneRow refl h) ∙ ones-accepted k (part k zs) h (part-length k zs l) (λ i g. part-at k i (pos 1) zs f g))
-
-same-samples : (n : ℕ) → n ≡ 394752 → replyOf (expandSet (many 17 oneRow) (replicate n (pos 1)) 394752 394752) ≡ 0 ∷ []
-same-samples n e = set-of-ones (replicate n (pos 1)) (length-replicate n (pos 1) ∙ e) (λ i h. getD-replicate n i (pos 1) (pos 0) (lt-of-lt-of-le h (le-of-eq (sym e))))
+    let zs : List ℤ = replicate (placesOf k) (pos 1) in
+    raw-accepts k (rawRow 0x3c00) zs (placesOf k) (placesOf k) (lent-alone k (rawRow 0x3c00) zs h refl (length-replicate (placesOf k) (pos 1))) (raw-allowed k 0x3c00 h refl) refl
+    (λ i g. ap (λ (z : ℤ). refused (weightOf (half 0x3c00) z)) (getD-replicate (placesOf k) i (pos 1) (pos 0) g) ∙ one-fine)
 
 -- all 17 as a set, lent 394,752 samples of 1 and two arenas of that length, answer DONE
-pub ones-set-done : replyOf (expandSet (many 17 oneRow) (replicate 394752 (pos 1)) 394752 394752) ≡ 0 ∷ []
-ones-set-done = same-samples 394752 refl
+pub ones-set-done : replyOf (expandSet (rawAll 0x3c00) (replicate 394752 (pos 1)) 394752 394752) ≡ 0 ∷ []
+ones-set-done = all-same 0x3c00 refl (pos 1) one-fine 394752 refl

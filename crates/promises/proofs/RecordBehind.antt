@@ -25,7 +25,8 @@ use Rattle.params.specs.Raw.{isRaw}
 use Rattle.params.proofs.RawLaws.{all-samples}
 use Rattle.record.specs.Description.{rawParts, describe, fits32, Each, Allowed, storeParts}
 use Rattle.record.proofs.FlatLaws.{all-good, all-count, flat-rows, joined-length, small-flag}
-use Rattle.promises.proofs.RecordRows.{samples-fit, row-bits, row-passes, each-zero}
+use Rattle.promises.proofs.RecordRows.{samples-fit, row-bits, row-passes}
+use Rattle.promises.proofs.RowRule.{small-same}
 use Rattle.record.proofs.KindStores.{ready}
 use Rattle.record.proofs.OkLaws.{each-of}
 use Rattle.record.proofs.SetStores.{lent-else, each-zeros, row-first}
@@ -214,7 +215,7 @@ default-behind = record {
   rows = allDefault;
   samples = none;
   allowed = record {
-    bits = each-set (λ v. v < 65536) (replicate 2176 0) 126 1 (omega arith) (each-zero 2176);
+    bits = each-set (λ v. v < 65536) (replicate 2176 0) 126 1 (omega arith) (small-same 2176 0 (omega arith));
     fits = each-zeros 394752;
     lent = sym (lent-else allDefault none (length-set {A = ℕ} (replicate 2176 0) 126 1 ∙ length-replicate {A = ℕ} 2176 0) true (all-samples allDefault (length none) (length-replicate 394752 (pos 0))));
     row = default-fault;

@@ -22,9 +22,9 @@ use Rattle.record.specs.Record.{numberCount, sampleCount}
 use Rattle.record.specs.Rows.{Row, rowFormat}
 use Rattle.record.specs.Description.{Each}
 use Rattle.record.specs.Stored.{Checked}
-use Rattle.record.proofs.FlatLaws.{row-good}
 use Rattle.record.proofs.OkLaws.{each-take, each-drop, entry-ok}
 use Rattle.record.proofs.SetStores.{row-first, lent-rows}
+use Rattle.promises.proofs.RowRule.{small-row, entry-flag}
 
 -- a row of mode 0 is all 0
 abbrev made : List ℕ → ℕ → List ℕ
@@ -63,9 +63,6 @@ module _ (rows : List ℕ) (samples : List ℤ) (a : Checked rows samples) (e : 
   passes : (k : ℕ) → k < 17 → rowAllowed k (rowAt rows k) ≡ true
   passes k h = before-each (λ i. rowAllowed i (rowAt rows i)) 17 (le-of-eq (sym (fault-modes rows e zeros ∙ a .row))) k h
 
-  bits-here : (k : ℕ) → Each (λ v. v < 65536) (rowAt rows k)
-  bits-here k = each-take (λ v. v < 65536) 128 (drop (k * 128) rows) (each-drop (λ v. v < 65536) (k * 128) rows (a .bits))
-
   first-zero : (k : ℕ) → k < 17 → getD (rowAt rows k) 0 0 ≡ 0
   first-zero k h = row-first rows k 0 (omega arith) ∙ ap (λ (i : ℕ). getD rows i 0) (native.Mathlib.Nat.add-zero (k * 128)) ∙ mode-zero k h
 
@@ -78,16 +75,14 @@ module _ (rows : List ℕ) (samples : List ℤ) (a : Checked rows samples) (e : 
   later-row k p h =
       let x = and-true (ltb k 17) (entryRow k (rowAt rows k) || (eqb k 0 && flagRow (rowAt rows k))) (passes k h) in
       let y : (entryRow k (rowAt rows k) || false) ≡ true = rw (ne-eqb k 0 (λ q. omega arith)) at (x .1) in
-      zero-row k (rowAt rows k) (or-false (entryRow k (rowAt rows k)) y) (bits-here k) (first-zero k h)
+      zero-row k (rowAt rows k) (or-false (entryRow k (rowAt rows k)) y) (small-row rows k (a .bits)) (first-zero k h)
 
   first-flag : flagRow (rowAt rows 0) ≡ true
   unfolding rowAllowed
   first-flag = go (entryRow 0 (rowAt rows 0)) refl
     where
       go : (b : Bool) → entryRow 0 (rowAt rows 0) ≡ b → flagRow (rowAt rows 0) ≡ true
-      go true q =
-          let z : getD (rowAt rows 0) 126 0 ≡ 0 = row-good 0 (rowAt rows 0, []) (row-ok 0 (rowAt rows 0) q (bits-here 0) (first-zero 0 (omega arith))) .1 in
-          absurd (omega (arith, z, row-first rows 0 126 (omega arith), e))
+      go true q = absurd (omega (arith, entry-flag 0 (rowAt rows 0) q, row-first rows 0 126 (omega arith), e))
       go false q = rw q at (and-true (ltb 0 17) (entryRow 0 (rowAt rows 0) || (eqb 0 0 && flagRow (rowAt rows 0))) (passes 0 (omega arith)) .1)
 
   first-row : (j : ℕ) → j < 128 → (j ≡ 126 → ⊥) → getD (rowAt rows 0) j 0 ≡ 0

@@ -23,6 +23,7 @@ use Rattle.record.specs.Description.{fits32, Each}
 use Rattle.record.specs.Stored.{Ready}
 use Rattle.record.proofs.HalfLaws.{isTrue, half-bound, byte-hex}
 use Rattle.record.proofs.KindStores.{ready}
+use Rattle.promises.proofs.RowRule.{small-same}
 
 mode-allowed : (k m : ℕ) → modeLines k .Ok m → allowed k m ≡ true
 mode-allowed k m o =
@@ -94,10 +95,6 @@ pub each-append : (P : ℕ → Type 0) (l m : List ℕ) → Each P l → Each P 
 each-append P [] m e f = f
 each-append P (a ∷ l) m e f = (e .0, each-append P l m (e .1) f)
 
-pub each-zero : (n : ℕ) → Each (λ v. v < 65536) (replicate n 0)
-each-zero zero = tt
-each-zero (suc n) = (omega arith, each-zero n)
-
 module _ (k : ℕ) (row : List ℕ) (part : List ℤ) (o : rowFormat k .Ok (row, part)) where
   x : Ready k row part
   x = ready k row part o
@@ -123,7 +120,7 @@ module _ (k : ℕ) (row : List ℕ) (part : List ℤ) (o : rowFormat k .Ok (row,
       let c : getD (countsOf row) 0 0 < 65536 = omega (arith, x .first, counts .2) in
       let d : getD (countsOf row) 1 0 < 65536 = omega (arith, x .second, counts .3) in
       let m : getD row 0 0 < 65536 = omega (arith, x .mode) in
-      subst (Each (λ v. v < 65536)) row-is (each-append (λ v. v < 65536) (slots (entryOf (row, part))) (replicate (128 - length (slots (entryOf (row, part)))) 0) (m, (c, (d, halves .1))) (each-zero (128 - length (slots (entryOf (row, part))))))
+      subst (Each (λ v. v < 65536)) row-is (each-append (λ v. v < 65536) (slots (entryOf (row, part))) (replicate (128 - length (slots (entryOf (row, part)))) 0) (m, (c, (d, halves .1))) (small-same (128 - length (slots (entryOf (row, part)))) 0 (omega arith)))
 
   rest : drop (numberCount (getD row 0 0) (countsOf row)) (drop 3 row) ≡ replicate (128 - length (slots (entryOf (row, part)))) 0
   rest =

@@ -76,7 +76,7 @@ row-fine k row e n0 i = go (entryRow k row) (eqb k 0) refl refl (right (ltb k 17
 abbrev most : ℕ → ℕ → ℕ
 most n m = cond (leb n (lists m)) 16 0
 
-count-most : (b : Bool) (c : ℕ) → countOk b c ≡ true → c ≤ cond b 16 0
+pub count-most : (b : Bool) (c : ℕ) → countOk b c ≡ true → c ≤ cond b 16 0
 count-most true c e = leb-true c 16 (right (leb 1 c) (leb c 16) e)
 count-most false c e = let z = eqb-true c 0 e in omega arith
 

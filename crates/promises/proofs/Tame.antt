@@ -2,18 +2,19 @@
 use mathlib.Core.Path.{_≡_, refl, sym, ap, _∙_, subst}
 use mathlib.Core.Bool.{Bool, true, false, cond, not, _&&_, _||_}
 use mathlib.Core.List.{List, [], _∷_}
-use Prim.Native.Nat.{ℕ, zero, suc, _+_, _*_, _/_, _%_, _^_, _≤_, _<_}
+use Prim.Native.Nat.{ℕ, zero, suc, _+_, _-_, _*_, _/_, _%_, _^_, _≤_, _<_}
 use native.Mathlib.Nat.{mod-lt, div-lt-iff-lt-mul, le-refl, le-trans, le-of-eq, le-suc, lt-of-lt-of-le, lt-of-le-of-lt, not-suc-le-zero, mul-one, one-mul, mul-comm, mul-right-comm, mul-pos, mul-le-mul-right, mul-le-mul-left, le-of-mul-le-mul-right}
 use native.Mathlib.Omega.{arith}
 use borrow.Author.Tests.{le-ltb, ne-eqb, eq-eqb}
 use lib.Dec.{ltb, eqb, leb, leb→le, lit<, lit≤}
 use lib.IntN.{ℤ, pos}
-use lib.ListN.{getD}
+use lib.ListN.{length, getD}
 use lib.Pow.{pow-pos}
 use lib.Ieee.{Float, nan, inf, fin, binary32, up, down, size, div, lt, le, eq, ne}
 use lib.Ieee.Fits.{down-pos}
 use Rattle.transform.specs.Kinds.{widthOf, heightOf, areaOf, placesOf}
 use Rattle.transform.proofs.Laws.{at, width-le, height-le}
+use Rattle.params.specs.Allowed.{rowAllowed}
 use Rattle.bands.specs.Bands.{nought, one, atOf, bandAt, barred}
 use Rattle.bands.specs.Freqs.{interpolated, freqWeight}
 use Rattle.bands.proofs.Sound.{sound-every}
@@ -24,11 +25,12 @@ use Rattle.matrix.specs.declared.Expanded.{Expanded}
 use Rattle.matrix.specs.declared.Expanded.the-variants.{Done, Band}
 use Rattle.matrix.specs.Raw.{refused, weightOf}
 use Rattle.matrix.specs.Numbers.{numbersOf, numberOf, count}
-use Rattle.matrix.specs.Expanded.{replyOf, orElse, listAnswer, bandAnswer, kindAnswer}
+use Rattle.matrix.specs.Expanded.{replyOf, orElse, listAnswer, bandAnswer, lentRight, kindAnswer, expandAnswer}
 use Rattle.matrix.specs.Views.{Shaped}
 use Rattle.matrix.specs.Weight.{weightAt, gridWeight, mode1, mode2, mode3, mode4, mode5, corner, from, layer, rule, weightIn}
-use Rattle.matrix.proofs.RowFacts.{not-raw}
-use Rattle.promises.proofs.Accepts.{kind-accepts}
+use Rattle.matrix.proofs.Lending.{given}
+use Rattle.matrix.proofs.RowFacts.{facts, row-shaped, not-raw}
+use Rattle.promises.proofs.Accepts.{accepts, kind-passes}
 use Rattle.promises.proofs.RowNumbers.{listNumber, ownList}
 use Rattle.promises.proofs.PowerBetween.{Within, Room}
 use Rattle.promises.proofs.WeightBetween.{grid-within, freq-within}
@@ -90,7 +92,13 @@ inverse-fine w b =
     (lit< tt)) in
     fine-value (div binary32 one w) (r .at) (r .value) (lt-of-lt-of-le (pow-pos 107) (r .least)) (r .most)
 
--- ---- what lies from 2 ^ -24 to 2 ^ 40
+-- ---- what lies from 2 ^ -24 to 2 ^ 40, and from 1/2 to 2, in units of 2 ^ -149
+abbrev pub Moderate : Float → Type 0
+Moderate = Banded (2 ^ (149 - 24)) (2 ^ (149 + 40))
+
+abbrev pub Divisor : Float → Type 0
+Divisor = Banded (2 ^ (149 - 1)) (2 ^ (149 + 1))
+
 tame-room : Room (2 ^ 125) (2 ^ 189)
 tame-room = record { low = lit≤ tt; high = lit≤ tt; near = lit≤ tt }
 
@@ -119,11 +127,11 @@ wider a b c d z l h r = record { at = r .at; value = r .value; most = le-trans (
 fair-good : (w : Float) → Fair w → Good w
 fair-good w r = wider (2 ^ 124) (2 ^ 190) (2 ^ 123) (2 ^ 191) w (lit≤ tt) (lit≤ tt) r
 
-tame-good : (w : Float) → Banded (2 ^ 125) (2 ^ 189) w → Good w
+tame-good : (w : Float) → Moderate w → Good w
 tame-good w r = wider (2 ^ 125) (2 ^ 189) (2 ^ 123) (2 ^ 191) w (lit≤ tt) (lit≤ tt) r
 
 -- divided by a number from 1/2 to 2
-over-good : (w p : Float) → Fair w → Banded (2 ^ 148) (2 ^ 150) p → Good (div binary32 w p)
+over-good : (w p : Float) → Fair w → Divisor p → Good (div binary32 w p)
 unfolding size
 over-good w p b r =
     let pos0 : 0 < r .at = lt-of-lt-of-le (pow-pos 148) (r .least) in
@@ -143,10 +151,10 @@ used m = getD (0 ∷ 3 ∷ 6 ∷ 2 ∷ 1 ∷ 5 ∷ []) m 0
 
 -- bands and numbers from 2 ^ -24 to 2 ^ 40; what modes 3 and 4 divide by from 1/2 to 2
 pub record Tame (n : Numbers) : Type 0 where
-  pub bands : (l c i : ℕ) → c < 3 → i < count n l → Banded (2 ^ 125) (2 ^ 189) (bandAt (listNumber n l c) i)
-  pub numbers : (c i : ℕ) → c < 3 → i < used (n .mode) → Banded (2 ^ 125) (2 ^ 189) (numberOf n c i)
-  pub divisors : 3 ≤ n .mode → n .mode ≤ 4 → (c i : ℕ) → c < 3 → i < used (n .mode) → Banded (2 ^ 148) (2 ^ 150) (numberOf n c i)
-  pub own : n .mode ≡ 5 → (c i : ℕ) → c < 3 → i < 4 → Banded (2 ^ 125) (2 ^ 189) (bandAt (atOf (ownList n c)) i)
+  pub bands : (l c i : ℕ) → c < 3 → i < count n l → Moderate (bandAt (listNumber n l c) i)
+  pub numbers : (c i : ℕ) → c < 3 → i < used (n .mode) → Moderate (numberOf n c i)
+  pub divisors : 3 ≤ n .mode → n .mode ≤ 4 → (c i : ℕ) → c < 3 → i < used (n .mode) → Divisor (numberOf n c i)
+  pub own : n .mode ≡ 5 → (c i : ℕ) → c < 3 → i < 4 → Moderate (bandAt (atOf (ownList n c)) i)
 
 -- ---- no band is refused
 above-passes : (m : ℕ) (e : ℤ) → 0 < m * up e → barred (fin false m e) ≡ false
@@ -161,7 +169,7 @@ above-passes m e low =
     some : (n d : ℕ) → 0 < n → n * 1 ≡ 0 * 1 * d → ⊥
     some n d h z = omega arith
 
-banded-passes : (b : Float) → Banded (2 ^ 125) (2 ^ 189) b → barred b ≡ false
+banded-passes : (b : Float) → Moderate b → barred b ≡ false
 banded-passes b r = go b (r .at) (r .value) (lt-of-lt-of-le (pow-pos 125) (r .least))
   where
     go : (x : Float) (g : ℕ) → Units binary32 x g → 0 < g → barred x ≡ false
@@ -314,12 +322,18 @@ place-in k p h g =
     let A : 0 < widthOf k * heightOf k = mul-pos W (lt-of-lt-of-le (lit< tt) (s .1)) in
     (div-lt-iff-lt-mul A .1 g, div-lt-iff-lt-mul W .1 (lt-of-lt-of-le (mod-lt p A) (le-of-eq (mul-comm (widthOf k) (heightOf k)))), mod-lt (p % (widthOf k * heightOf k)) W)
 
--- a row that passes ROW, is not raw and whose numbers are tame is accepted, whatever samples are lent
-pub tame-accepts : (k : ℕ) (row : List ℕ) (zs : List ℤ) → Shaped (numbersOf row k) k → Tame (numbersOf row k) → replyOf (kindAnswer row zs k) ≡ 0 ∷ []
+-- BAND and WEIGHT let a row pass whose numbers are tame, whatever samples are lent
+pub tame-passes : (k : ℕ) (row : List ℕ) (zs : List ℤ) → Shaped (numbersOf row k) k → Tame (numbersOf row k) → replyOf (kindAnswer row zs k) ≡ 0 ∷ []
 unfolding weightAt
-tame-accepts k row zs s t =
-    kind-accepts k row zs (ap replyOf (tame-bands (numbersOf row k) k t 3 (le-refl 3)))
+tame-passes k row zs s t =
+    kind-passes k row zs (ap replyOf (tame-bands (numbersOf row k) k t 3 (le-refl 3)))
     (λ p h. let i = place-in k p (s .named) h in
     ap refused (weight-plain (numbersOf row k) zs k (p / areaOf k) (p % areaOf k) (not-raw (numbersOf row k) k s))
     ∙ inverse-fine (rule (numbersOf row k) k (p / areaOf k) (p % areaOf k / widthOf k) (p % areaOf k % widthOf k) (numbersOf row k .mode))
     (rule-good (numbersOf row k) k s t (p / areaOf k) (p % areaOf k / widthOf k) (p % areaOf k % widthOf k) (i .0) (i .1) (i .2) (numbersOf row k .mode) refl (s .least) (s .most)))
+
+-- so a kind that is not raw and whose numbers are tame is accepted where LENT and ROW pass
+pub tame-accepts : (k : ℕ) (row : List ℕ) (zs : List ℤ) (s t : ℕ) → lentRight k row (length zs) s t ≡ true → rowAllowed k row ≡ true → (getD row 0 0 ≡ 7 → ⊥) → Tame (numbersOf row k)
+    → replyOf (expandAnswer k row zs s t) ≡ 0 ∷ []
+tame-accepts k row zs s t lent ok plain tame =
+    accepts k row zs s t lent ok (tame-passes k row zs (row-shaped k row (given k row (length zs) s t lent .kind) (facts k row ok) plain) tame)
