@@ -43,7 +43,7 @@ module _ (b : List ℕ) (row : ℕ → List ℕ) (f : ℕ → List Field) (w : (
       → (rows : List ℕ) → length rows ≡ 2176 → readHeader b 0 0 rows .answer ≡ Done (8 * n)
   header-spelt n e h i z rows l =
       let fs = fieldsFrom f 17 0 in
-      let t = subst (λ (x : List ℕ). Spells x 0 (bits 1 0 ∷ fs)) (sym i) (spelt n (numberOf (bits 1 0 ∷ fs)) 0 (bits 1 0 ∷ fs) (lit≤ tt, lit≤ tt, z) (omega arith) (omega arith) (omega arith)) in
+      let t = subst (λ (x : List ℕ). Spells x 0 (bits 1 0 ∷ fs)) (sym i) (spelt n (numberOf (bits 1 0 ∷ fs)) 0 (bits 1 0 ∷ fs) (lit≤ tt, z) (omega arith) (omega arith) (omega arith)) in
       ap (λ (o : Outcome). o .answer) (header-all b 0 0 rows refl l 0 1 (t .0) (λ j. omega arith)) ∙ kinds-spelt 17 0 1 rows (lit≤ tt) (t .1) ∙ ap Done e
 
 -- ---- the longest one
@@ -75,10 +75,10 @@ not-raw false = refl
 sized-by : (t : Bool) → Sized (fieldsBy t)
 sized-by true =
     let n : (k : ℕ) → Sized (numbersOf (replicate k 0)) = λ k. sized-numbers (replicate k 0) (small-same k 0 (lit≤ tt)) in
-    let last : Sized (bits 4 15 ∷ numbersOf (replicate 48 0)) = (lit≤ tt, lit≤ tt, n 48) in
-    let lists : Sized (bits 4 15 ∷ (numbersOf (replicate 48 0) ++ bits 4 15 ∷ numbersOf (replicate 48 0))) = (lit≤ tt, lit≤ tt, sized-append (numbersOf (replicate 48 0)) (bits 4 15 ∷ numbersOf (replicate 48 0)) (n 48) last) in
-    (lit≤ tt, lit≤ tt, sized-append (numbersOf (replicate 27 0)) (bits 4 15 ∷ (numbersOf (replicate 48 0) ++ bits 4 15 ∷ numbersOf (replicate 48 0))) (n 27) lists)
-sized-by false = (lit≤ tt, lit≤ tt, (lit≤ tt, lit≤ tt, sized-numbers (replicate 48 0) (small-same 48 0 (lit≤ tt))))
+    let last : Sized (bits 4 15 ∷ numbersOf (replicate 48 0)) = (lit≤ tt, n 48) in
+    let lists : Sized (bits 4 15 ∷ (numbersOf (replicate 48 0) ++ bits 4 15 ∷ numbersOf (replicate 48 0))) = (lit≤ tt, sized-append (numbersOf (replicate 48 0)) (bits 4 15 ∷ numbersOf (replicate 48 0)) (n 48) last) in
+    (lit≤ tt, sized-append (numbersOf (replicate 27 0)) (bits 4 15 ∷ (numbersOf (replicate 48 0) ++ bits 4 15 ∷ numbersOf (replicate 48 0))) (n 27) lists)
+sized-by false = (lit≤ tt, (lit≤ tt, sized-numbers (replicate 48 0) (small-same 48 0 (lit≤ tt))))
 
 sized-from : (n kind : ℕ) → Sized (fieldsFrom (λ k. fieldsBy (rich k)) n kind)
 sized-from zero kind = tt

@@ -6,7 +6,7 @@ use native.Mathlib.Omega.{arith}
 use lib.Pow.{shr-shr, high, low}
 use Rattle.bitstream.specs.Bits.{field}
 use Rattle.bitstream.specs.declared.Bits.the-variants.{Value}
-use Rattle.bitstream.proofs.Laws.{read-in, value-lt, value-width}
+use Rattle.bitstream.proofs.Laws.{read-in, value-lt}
 use Rattle.bitstream.proofs.Bytes.{bytesOf, length-bytesOf, field-at}
 use Rattle.params.specs.Row.{on, entry}
 use Rattle.params.proofs.Written.{Field, span, Spells, Sized, Written}
@@ -21,15 +21,15 @@ pub spelt : (n x p : ℕ) (fs : List Field) → Sized fs → x / 2 ^ p ≡ numbe
 spelt n x p [] z e h k = tt
 spelt n x p (f ∷ fs) z e h k =
     let w = f .width in
-    let is : field (bytesOf n x) p w ≡ f .value = field-at n x p w (omega arith) ∙ ap (λ (y : ℕ). y % 2 ^ w) e ∙ low (numberOf fs) w (z .1) in
-    let next : x / 2 ^ (p + w) ≡ numberOf fs = sym (shr-shr x p w) ∙ ap (λ (y : ℕ). y / 2 ^ w) e ∙ high (numberOf fs) w (z .1) in (
-      read-in (bytesOf n x) p w (z .0) (omega (arith, length-bytesOf n x)) ∙ ap (λ (y : ℕ). Value y (p + w)) is,
-      spelt n x (p + w) fs (z .2) next (omega arith) (omega arith),
+    let is : field (bytesOf n x) p w ≡ f .value = field-at n x p w (omega arith) ∙ ap (λ (y : ℕ). y % 2 ^ w) e ∙ low (numberOf fs) w (z .0) in
+    let next : x / 2 ^ (p + w) ≡ numberOf fs = sym (shr-shr x p w) ∙ ap (λ (y : ℕ). y / 2 ^ w) e ∙ high (numberOf fs) w (z .0) in (
+      read-in (bytesOf n x) p w (omega (arith, length-bytesOf n x)) ∙ ap (λ (y : ℕ). Value y (p + w)) is,
+      spelt n x (p + w) fs (z .1) next (omega arith) (omega arith),
     )
 
 sized : (b : List ℕ) (p : ℕ) (fs : List Field) → Spells b p fs → Sized fs
 sized b p [] l = tt
-sized b p (f ∷ fs) l = (value-width b p (f .width) (f .value) (p + f .width) (l .0), value-lt b p (f .width) (f .value) (p + f .width) (l .0), sized b (p + f .width) fs (l .1))
+sized b p (f ∷ fs) l = (value-lt b p (f .width) (f .value) (p + f .width) (l .0), sized b (p + f .width) fs (l .1))
 
 -- a row that is read is one that `Written` gives, with fields that bits can spell
 pub read-written : (b : List ℕ) (kind p q s : ℕ) (row : List ℕ) → entry b kind p ≡ on q s row → (fs : List Field) × Written kind row fs × Sized fs

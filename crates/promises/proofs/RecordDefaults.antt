@@ -22,7 +22,7 @@ use Rattle.record.specs.Record.{numberCount, sampleCount}
 use Rattle.record.specs.Rows.{Row, rowFormat}
 use Rattle.record.specs.Description.{Each}
 use Rattle.record.specs.Stored.{Checked}
-use Rattle.record.proofs.OkLaws.{each-take, each-drop, entry-ok}
+use Rattle.record.proofs.OkLaws.{entry-ok}
 use Rattle.record.proofs.SetStores.{row-first, lent-rows}
 use Rattle.promises.proofs.RowRule.{small-row, entry-flag}
 

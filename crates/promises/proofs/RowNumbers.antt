@@ -5,9 +5,9 @@ use mathlib.Core.List.{List, [], _∷_}
 use Prim.Native.Nat.{ℕ, zero, suc, _+_, _*_, _%_, _≤_, _<_}
 use native.Mathlib.Nat.{le-trans, le-of-suc-le-suc, not-suc-le-zero, mul-le-mul-right, mul-add-mod-self-right, mod-eq-of-lt}
 use native.Mathlib.Omega.{arith}
-use borrow.Author.Tests.{eqb-true, eqb-false, ne-eqb, leb-true, not-true}
+use borrow.Author.Tests.{eqb-true, ne-eqb, leb-true}
 use lib.Dec.{T, leb, ltb, eqb, leb→le, lit<}
-use lib.ListN.{length, getD, take, drop}
+use lib.ListN.{getD, drop}
 use lib.Seq.{getD-take, getD-drop}
 use lib.Ieee.{Float, nan, binary32, fits, mul}
 use lib.Ieee.Fits.{and-l, and-r, and-i}
@@ -15,8 +15,9 @@ use lib.Ieee.Scale.{finite}
 use Rattle.transform.proofs.Laws.{below, at}
 use Rattle.bitstream.specs.Half.{half}
 use Rattle.bitstream.specs.Half as halves
-use Rattle.params.specs.Row.{fixed, lists}
-use Rattle.params.specs.Allowed.{allFine, allZero, countOk, entryRow, flagRow, rowAllowed}
+use Rattle.params.specs.Row.{lists}
+use Rattle.params.specs.Allowed.{countOk, rowAllowed}
+use Rattle.params.proofs.FineLaws.{row-fine}
 use Rattle.bands.specs.Bands.{atOf}
 use Rattle.bands.specs.Quant.{channelOf}
 use Rattle.bands.proofs.TableLaws.{getD-tab}
@@ -28,49 +29,6 @@ use Rattle.matrix.specs.Defaults.{defaultMode, defaultFirst, defaultSecond}
 use Rattle.matrix.specs.Numbers.{each, readNumbers, defaultNumbers, defaultValue, numbersOf, numberOf, count, begins, opening, times64, bandNumber, listOf}
 use Rattle.matrix.proofs.Chain.{left, right}
 use Rattle.matrix.proofs.RowFacts.{facts}
-
--- ---- every slot from 3 on holds a half float that reading lets pass
-zero-at : (l : List ℕ) (i : ℕ) → allZero l ≡ true → halves.barred (getD l i 0) ≡ false
-zero-at [] i e = refl
-zero-at (v ∷ l) zero e = ap halves.barred (eqb-true v 0 (left (eqb v 0) (allZero l) e))
-zero-at (v ∷ l) (suc i) e = zero-at l i (right (eqb v 0) (allZero l) e)
-
-split-at : (n : ℕ) (l : List ℕ) (i : ℕ) → allFine (take n l) ≡ true → allZero (drop n l) ≡ true → halves.barred (getD l i 0) ≡ false
-split-at n [] i f z = refl
-split-at zero (v ∷ l) i f z = zero-at (v ∷ l) i z
-split-at (suc n) (v ∷ l) zero f z = not-true (halves.barred v) (left (not (halves.barred v)) (allFine (take n l)) f)
-split-at (suc n) (v ∷ l) (suc i) f z = split-at n l i (right (not (halves.barred v)) (allFine (take n l)) f) z
-
-entry-fine : (k : ℕ) (row : List ℕ) → entryRow k row ≡ true → (i : ℕ) → halves.barred (getD row (3 + i) 0) ≡ false
-unfolding entryRow
-entry-fine k row e i =
-    let e1 = right (eqb (length row) 128) _ e in
-    let e2 = right (ltb (getD row 0 0) 8) _ e1 in
-    let e3 = right (Rattle.params.specs.Row.allowed k (getD row 0 0)) _ e2 in
-    let e4 = right (countOk (leb 1 (lists (getD row 0 0))) (getD row 1 0)) _ e3 in
-    let e5 = right (countOk (leb 2 (lists (getD row 0 0))) (getD row 2 0)) _ e4 in
-    ap halves.barred (sym (getD-drop 3 row i 0))
-    ∙ split-at (fixed (getD row 0 0) + 3 * getD row 1 0 + 3 * getD row 2 0) (drop 3 row) i (left (allFine (take (fixed (getD row 0 0) + 3 * getD row 1 0 + 3 * getD row 2 0) (drop 3 row))) _ e5) (right (allFine (take (fixed (getD row 0 0) + 3 * getD row 1 0 + 3 * getD row 2 0) (drop 3 row))) _ e5)
-
-flag-mode : (row : List ℕ) → flagRow row ≡ true → getD row 0 0 ≡ 0
-unfolding flagRow
-flag-mode row e =
-    let z = left (allZero (take 126 row)) _ (right (eqb (getD row 126 0) 1) _ (right (eqb (length row) 128) _ e)) in
-    sym (getD-take 126 row 0 0 (lit< tt)) ∙ first (take 126 row) z
-  where
-    first : (l : List ℕ) → allZero l ≡ true → getD l 0 0 ≡ 0
-    first [] e = refl
-    first (v ∷ l) e = eqb-true v 0 (left (eqb v 0) (allZero l) e)
-
--- a row that passes the ROW check and is not of mode 0: no slot from 3 on has exponent 31
-pub row-fine : (k : ℕ) (row : List ℕ) → rowAllowed k row ≡ true → (getD row 0 0 ≡ 0 → ⊥) → (i : ℕ) → halves.barred (getD row (3 + i) 0) ≡ false
-unfolding rowAllowed
-row-fine k row e n0 i = go (entryRow k row) (eqb k 0) refl refl (right (ltb k 17) (entryRow k row || (eqb k 0 && flagRow row)) e)
-  where
-    go : (a b : Bool) → entryRow k row ≡ a → eqb k 0 ≡ b → (a || (b && flagRow row)) ≡ true → halves.barred (getD row (3 + i) 0) ≡ false
-    go true b p q t = entry-fine k row p i
-    go false true p q t = absurd (n0 (flag-mode row t))
-    go false false p q t = absurd (true≢false (sym t))
 
 -- ---- they all stand among the 123 values
 abbrev most : ℕ → ℕ → ℕ
@@ -273,7 +231,7 @@ module _ (k : ℕ) (row : List ℕ) (ok : rowAllowed k row ≡ true) where
     where
       go : (b : Bool) → eqb (getD row 0 0) 0 ≡ b → (n : Numbers) → n ≡ cond b (defaultNumbers k) (readNumbers row) → i < count n l → T (meets i (bandNumber n l (c * count n l + i)))
       go true e n p g = subst (λ (n : Numbers). i < count n l → T (meets i (bandNumber n l (c * count n l + i)))) (sym p) (default-meets k l c i (named k row ok) h) g
-      go false e n p g = subst (λ (n : Numbers). i < count n l → T (meets i (bandNumber n l (c * count n l + i)))) (sym p) (read-meets row (row-fine k row ok (eqb-false (getD row 0 0) 0 e)) room l c i h) g
+      go false e n p g = subst (λ (n : Numbers). i < count n l → T (meets i (bandNumber n l (c * count n l + i)))) (sym p) (read-meets row (row-fine k row ok) room l c i h) g
 
   -- every list of every channel meets what the theorems on bands ask of its numbers
   pub list-given : (l c : ℕ) → c < 3 → 0 < count (numbersOf row k) l → Given (listNumber (numbersOf row k) l c) (count (numbersOf row k) l)
@@ -285,4 +243,4 @@ module _ (k : ℕ) (row : List ℕ) (ok : rowAllowed k row ≡ true) where
     where
       go : (b : Bool) → eqb (getD row 0 0) 0 ≡ b → (n : Numbers) → n ≡ cond b (defaultNumbers k) (readNumbers row) → n .mode ≡ 5 → (i : ℕ) → i < 4 → T (owns i (numberOf n c (5 + i)))
       go true e n p q i g = subst (λ (n : Numbers). n .mode ≡ 5 → T (owns i (numberOf n c (5 + i)))) (sym p) (λ q. default-own k c i (named k row ok) q h g) q
-      go false e n p q i g = subst (λ (n : Numbers). n .mode ≡ 5 → T (owns i (numberOf n c (5 + i)))) (sym p) (λ q. read-own row (row-fine k row ok (eqb-false (getD row 0 0) 0 e)) room q c h i g) q
+      go false e n p q i g = subst (λ (n : Numbers). n .mode ≡ 5 → T (owns i (numberOf n c (5 + i)))) (sym p) (λ q. read-own row (row-fine k row ok) room q c h i g) q

@@ -41,29 +41,27 @@ small-right (v ∷ a) x s = small-right a x (s .1)
 
 pub sized-numbers : (vs : List ℕ) → Small vs → Sized (numbersOf vs)
 sized-numbers [] s = tt
-sized-numbers (v ∷ vs) s = (lit≤ tt, s .0, sized-numbers vs (s .1))
+sized-numbers (v ∷ vs) s = (s .0, sized-numbers vs (s .1))
 
 pub sized-append : (fs gs : List Field) → Sized fs → Sized gs → Sized (fs ++ gs)
 sized-append [] gs x y = y
-sized-append (f ∷ fs) gs x y = (x .0, x .1, sized-append fs gs (x .2) y)
+sized-append (f ∷ fs) gs x y = (x .0, sized-append fs gs (x .1) y)
 
 count-small : (c : ℕ) → 0 < c → c ≤ 16 → c - 1 < 16
 count-small c h k = omega arith
 
 sized : (kind m : ℕ) (row : List ℕ) (fs : List Field) → Written kind row (bits 3 m ∷ fs) → m < 8 → Small row → Sized (bits 3 m ∷ fs)
-sized kind m row fs (plain m' a l o) h s = (lit≤ tt, h, sized-numbers a (small-left a _ (s .1 .1 .1)))
+sized kind m row fs (plain m' a l o) h s = (h, sized-numbers a (small-left a _ (s .1 .1 .1)))
 sized kind m row fs (one m' c a x l o f) h s =
     let t = small-left (a ++ x) _ (s .1 .1 .1) in
-    (lit≤ tt, h, sized-append (numbersOf a) _ (sized-numbers a (small-left a x t)) (lit≤ tt, count-small c (f .some) (f .few), sized-numbers x (small-right a x t)))
+    (h, sized-append (numbersOf a) _ (sized-numbers a (small-left a x t)) (count-small c (f .some) (f .few), sized-numbers x (small-right a x t)))
 sized kind m row fs (two m' c d a x y l o f g) h s =
     let t = small-left ((a ++ x) ++ y) _ (s .1 .1 .1) in
     let u = small-left (a ++ x) y t in (
-      lit≤ tt,
       h,
       sized-append (numbersOf a) _ (sized-numbers a (small-left a x u)) (
-        lit≤ tt,
         count-small c (f .some) (f .few),
-        sized-append (numbersOf x) _ (sized-numbers x (small-right a x u)) (lit≤ tt, count-small d (g .some) (g .few), sized-numbers y (small-right (a ++ x) y t)),
+        sized-append (numbersOf x) _ (sized-numbers x (small-right a x u)) (count-small d (g .some) (g .few), sized-numbers y (small-right (a ++ x) y t)),
       ),
     )
 
@@ -81,9 +79,9 @@ ok-fields kind row s e =
     (bits 3 m ∷ fs, w, sized kind m row fs w h s, short kind m row fs w)
 
 sized-ok : (kind : ℕ) (row : List ℕ) (fs : List Field) → Written kind row fs → Sized fs → entryRow kind row ≡ true
-sized-ok kind row fs (plain m a l o) z = written-ok kind m _ _ (plain m a l o) (z .1)
-sized-ok kind row fs (one m c a x l o f) z = written-ok kind m _ _ (one m c a x l o f) (z .1)
-sized-ok kind row fs (two m c d a x y l o f g) z = written-ok kind m _ _ (two m c d a x y l o f g) (z .1)
+sized-ok kind row fs (plain m a l o) z = written-ok kind m _ _ (plain m a l o) (z .0)
+sized-ok kind row fs (one m c a x l o f) z = written-ok kind m _ _ (one m c a x l o f) (z .0)
+sized-ok kind row fs (two m c d a x y l o f g) z = written-ok kind m _ _ (two m c d a x y l o f g) (z .0)
 
 -- what is read passes
 pub entry-ok : (b : List ℕ) (kind p q s : ℕ) (row : List ℕ) → entry b kind p ≡ on q s row → entryRow kind row ≡ true

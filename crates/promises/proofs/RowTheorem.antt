@@ -57,7 +57,7 @@ skips (suc d) fs = bits 3 0 ∷ skips d fs
 
 skips-sized : (d : ℕ) (fs : List Field) → Sized fs → Sized (skips d fs)
 skips-sized zero fs z = z
-skips-sized (suc d) fs z = (lit≤ tt, lit≤ tt, skips-sized d fs z)
+skips-sized (suc d) fs z = (lit≤ tt, skips-sized d fs z)
 
 skips-span : (d : ℕ) (fs : List Field) → span (skips d fs) ≡ 3 * d + span fs
 skips-span zero fs = omega arith
@@ -83,7 +83,7 @@ opens zero fs = bits 1 0 ∷ fs
 opens (suc j) fs = fs
 
 opens-sized : (start : ℕ) (fs : List Field) → Sized fs → Sized (opens start fs)
-opens-sized zero fs z = (lit≤ tt, lit≤ tt, z)
+opens-sized zero fs z = (lit≤ tt, z)
 opens-sized (suc j) fs z = z
 
 opens-span : (start : ℕ) (fs : List Field) → span (opens start fs) ≤ 1 + span fs
@@ -134,7 +134,7 @@ flag-is row e =
 flag-writes : (row : List ℕ) → flagRow row ≡ true → Writes 0 0 row
 unfolding default-row
 flag-writes row e =
-    let t = spelt 1 1 0 (bits 1 1 ∷ []) (lit≤ tt, lit≤ tt, tt) refl (lit≤ tt) (lit≤ tt) in
+    let t = spelt 1 1 0 (bits 1 1 ∷ []) (lit≤ tt, tt) refl (lit≤ tt) (lit≤ tt) in
     record {
       bytes = bytesOf 1 1;
       are = bytesOf-bytes 1 1;

@@ -3,12 +3,12 @@ use mathlib.Core.Path.{_≡_, refl, sym, ap, _∙_, subst}
 use mathlib.Core.Logic.{_↔_, _⊎_, inl, inr, ⊎-elim}
 use mathlib.Core.Bool.{Bool, true, false, cond, _&&_}
 use mathlib.Core.List.{List, [], _∷_}
-use Prim.Native.Nat.{ℕ, zero, suc, _*_, _≤_, _<_}
+use Prim.Native.Nat.{ℕ, zero, suc, _≤_, _<_}
 use native.Mathlib.Nat.{le-of-eq, le-refl, eq-or-lt-of-le, le-of-suc-le-suc, not-suc-le-zero, lt-irrefl, lt-of-lt-of-le}
 use native.Mathlib.Omega.{arith}
 use borrow.Author.Tests.{ne-eqb, eqb-true, eqb-false, ltb-true, ltb-false}
 use lib.Dec.{ltb, eqb}
-use lib.ListN.{length, getD, drop}
+use lib.ListN.{length, getD}
 use Rattle.transform.specs.First.{before}
 use Rattle.transform.proofs.FirstLaws.{before-stop, before-every}
 use Rattle.params.specs.declared.rows.RowCheck.{RowCheck}
@@ -16,7 +16,6 @@ use Rattle.params.specs.declared.rows.RowCheck.the-variants.{Done, Lent, Row}
 use Rattle.params.specs.Allowed.{entryRow, rowAllowed, rowAt, modeAt, flagFault, rowFault, checkRows, checkReply}
 use Rattle.params.proofs.FaultLaws.{allowed-entry, check-lent, check-row, check-done}
 use Rattle.dequant.proofs.Lent.{rows-fine}
-use Rattle.record.proofs.OkLaws.{each-take, each-drop}
 use Rattle.record.proofs.SetStores.{row-first}
 use Rattle.promises.proofs.ByNumber.{other, differs}
 use Rattle.promises.proofs.RowRule.{Small, small-row, entry-flag}
