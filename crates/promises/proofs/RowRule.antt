@@ -6,7 +6,7 @@ use Prim.Native.Nat.{ℕ, zero, suc, _+_, _-_, _*_, _^_, _≤_, _<_}
 use native.Mathlib.Omega.{arith}
 use lib.ListN.{length, getD, drop, replicate, length-append, getD-replicate}
 use lib.Seq.{getD-append-add}
-use lib.Dec.{lit≤, lit<}
+use lib.Dec.{lit<}
 use Rattle.bitstream.specs.Half.{barred}
 use Rattle.params.proofs.Written.{Field, bits, span, Sized, numbersOf, rowOf, Written, plain, one, two}
 use Rattle.params.specs.Allowed.{entryRow, rowAt}

@@ -7,7 +7,8 @@ use lib.Dec.{lit<}
 use lib.IntN.{ℤ, pos, negsuc}
 use lib.ListN.{length, getD, replicate, length-replicate, getD-replicate}
 use lib.Ieee.{Float, nan, fin}
-use Rattle.bitstream.specs.Half.{half, barred}
+use Rattle.bitstream.specs.declared.half.Number.the-variants.{Value}
+use Rattle.bitstream.specs.Half.{half, barred, halfAnswer, halfReply}
 use Rattle.bitstream.proofs.Numbers as halves
 use Rattle.params.specs.Header.{replyOf, readHeader}
 use Rattle.params.specs.Allowed.{checkRows, checkReply}
@@ -67,10 +68,10 @@ pub record Table : Type 0 where
   pub p2 : ReadsTo (replicate 7 0) (0 ∷ 52 ∷ [])
   pub p3 : ReadsTo (replicate 6 0) (2 ∷ 15 ∷ 46 ∷ [])
   pub p4 : ReadsTo (0 ∷ 32 ∷ []) (3 ∷ 4 ∷ 13 ∷ [])
-  -- half 7bff is 65504 = 2047 x 2 ^ 5, 7c00 FLOAT: here as kind 0's first number, at bit 4; half 0001 is 2 ^ -24
-  pub p5 : half 0x7bff ≡ fin false 2047 (pos 5)
-  pub p5-float : (barred 0x7c00 ≡ true) × ReadsTo (0x02 ∷ 0xc0 ∷ 0x07 ∷ []) (4 ∷ 0 ∷ 4 ∷ [])
-  pub p6 : half 0x0001 ≡ fin false 1 (negsuc 23)
+  -- half 7bff is 65504 = 2047 x 2 ^ 5, 7c00 FLOAT: by itself, and as kind 0's first number, at bit 4; half 0001 is 2 ^ -24
+  pub p5 : halfAnswer 0x7bff ≡ Value (fin false 2047 (pos 5))
+  pub p5-float : (halfReply (halfAnswer 0x7c00) ≡ 4 ∷ []) × ReadsTo (0x02 ∷ 0xc0 ∷ 0x07 ∷ []) (4 ∷ 0 ∷ 4 ∷ [])
+  pub p6 : halfAnswer 0x0001 ≡ Value (fin false 1 (negsuc 23))
   -- mult(-1) = 0.5, mult(1) = 2, mult(0) = 1
   pub p7 : P7
   -- denominator 1004: JPEG values, DONE; 1003 and 1005: NONE
@@ -124,7 +125,7 @@ table-holds = record {
   p3 = λ rows l. headers.numbers-hold rows l .p3;
   p4 = λ rows l. headers.numbers-hold rows l .p4;
   p5 = halves.p5;
-  p5-float = (halves.p5-barred, λ rows l. headers.numbers-hold rows l .p5);
+  p5-float = (halves.p5-float, λ rows l. headers.numbers-hold rows l .p5);
   p6 = halves.p6;
   p7 = p7;
   p8 = values 0x1004 (0 ∷ []) refl p8;
