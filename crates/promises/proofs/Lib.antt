@@ -1,5 +1,4 @@
 -- Theorems over all crates, on the definitions that their contracts cite.
-pub mod Coincide
 pub mod ByNumber
 pub mod RowsChecked
 pub mod Headed
