@@ -1,0 +1,117 @@
+#!/usr/bin/env python3
+"""Prints two tables of docs/THEOREMS.md from the sources, or with `--check` compares them with what stands there.
+
+Of each public function: the comment above it, its file and the definitions that its contract cites with theirs, the theorem that
+two results which the contract allows coincide, and its two wrong programs, in the words of the edits' lines
+`# fn CRATE::PATH: what is wrong`. Of each private function that an edit names: what is wrong there.
+In docs/THEOREMS.md a table stands between the lines `<!-- NAME -->` and `<!-- end -->`.
+"""
+import re
+import sys
+
+from check_coincide import functions, named
+from check_refused import FN, ROOT, public
+
+
+def defined():
+    """The file of each definition in a crate's specs/."""
+    files = {}
+    for path in sorted((ROOT / "crates").glob("*/specs/*.antt")):
+        for name in re.findall(r"^(?:(?:abbrev|unfoldable) )?pub (?:record |data )?(\w+)", path.read_text(), re.M):
+            files.setdefault((path.parts[-3], name), path.relative_to(ROOT))
+    return files
+
+
+def cited(path, contract, files):
+    """The definitions of specs/ that a contract names, each with its file; their crate is read from the `ghost use` lines."""
+    origin = {}
+    for line in re.findall(r"^ghost use Rattle·(\w+)[·.]\S*?\.\{([^}]*)\};", path.read_text(), re.M):
+        for name in line[1].split(","):
+            origin[name.strip()] = line[0]
+    found, said = [], set()
+    for name in re.findall(r"[A-Za-z]\w*", contract):
+        file = files.get((origin.get(name), name))
+        if file and name not in said:
+            said.add(name)
+            found.append((name, file))
+    groups = {}
+    for name, file in found:
+        groups.setdefault(file, []).append(f"`{name}`")
+    return "; ".join(f"{', '.join(names)} ({file})" for file, names in groups.items())
+
+
+def told(crate, owner, name):
+    """The file of a public function, the comment above it, and its contract."""
+    for path in sorted((ROOT / "crates" / crate / "src").glob("*.rt")):
+        text, at, here = path.read_text(), 0, ""
+        for line in text.splitlines(keepends=True):
+            if m := re.match(r"impl(?:<[^>]*>)? (\w+)", line):
+                here = m[1]
+            elif line.startswith("}"):
+                here = ""
+            if re.match(rf"\s*pub (extern \"C\" )?fn {name}\b", line) and here == owner:
+                above = re.search(r"((?:^ *//.*\n)*)(?:^ *#\[.*\n)?\Z", text[:at], re.M)[1]
+                words = " ".join(re.sub(r"^ *// ?", "", l) for l in above.splitlines())
+                contract = " ".join(re.findall(r"ensures.*?⌝ }", text[at:text.index("\n{\n" if not owner else "\n    {\n", at)], re.S))
+                return path, words, contract
+            at += len(line)
+    sys.exit(f"{crate}::{name}: not found")
+
+
+def wrong_programs():
+    """For each function that an edit names, by its path: what is wrong, in the order of the table's columns."""
+    wrong = {}
+    for crate in re.findall(r"^(\w+):", (ROOT / "crates.txt").read_text(), re.M):
+        edits = sorted((ROOT / "crates" / crate / "must-fail").glob("*.edit"), key=lambda e: ("another" in e.stem, e.stem))
+        for edit in edits:
+            for m in map(FN.fullmatch, edit.read_text().splitlines()):
+                if m:
+                    wrong.setdefault(m[1], []).append(m[2])
+    return wrong
+
+
+def seen_as(path):
+    """The name by which others see a public function: without the module that it stands in."""
+    crate, *inner = path.split("::")
+    return "::".join([crate] + [word for word in inner[:-1] if word[0].isupper()] + inner[-1:])
+
+
+def table(head, rows):
+    lines = ["| " + " | ".join(head) + " |", "|---" * len(head) + "|"]
+    return "\n".join(lines + ["| " + " | ".join(cells) + " |" for cells in rows]) + "\n"
+
+
+def tables():
+    files, wrong, order = defined(), wrong_programs(), re.findall(r"^(\w+):", (ROOT / "crates.txt").read_text(), re.M)
+    shown = {seen_as(path): path for crate in order if (ROOT / "crates" / crate / "must-fail").is_dir() for path in public(ROOT / "crates" / crate)}
+    rows = []
+    for crate, owner, name, _, _ in sorted(functions(), key=lambda f: order.index(f[0])):
+        seen = "::".join([crate] + [owner] * bool(owner) + [name])
+        path, words, contract = told(crate, owner, name)
+        says = f"{words} {path.relative_to(ROOT)}; {cited(path, contract, files)}".rstrip("; ")
+        rows.append((f"`{seen}`", says, f"`{named(owner, name)}`", *wrong.get(shown.get(seen), ["", ""])))
+    hidden = [(f"`{path}`", words) for path in wrong if path not in shown.values() for words in wrong[path]]
+    return {
+        "functions": table(["function", "its contract", "two results coincide", "wrong program 1", "wrong program 2"], rows),
+        "private": table(["private function", "wrong program"], hidden),
+    }
+
+
+def main():
+    made = tables()
+    if sys.argv[1:] != ["--check"]:
+        for name, text in made.items():
+            print(f"<!-- {name} -->\n{text}<!-- end -->\n")
+        return 0
+    page = (ROOT / "docs/THEOREMS.md").read_text()
+    stands = dict(re.findall(r"<!-- (\w+) -->\n(.*?)<!-- end -->", page, re.S))
+    bad = [name for name in made if stands.get(name) != made[name]]
+    if bad:
+        print(f"docs/THEOREMS.md: not what scripts/functions_table.py prints: {', '.join(bad)}", file=sys.stderr)
+    else:
+        print("docs/THEOREMS.md: the tables of functions are what the sources say")
+    return bool(bad)
+
+
+if __name__ == "__main__":
+    sys.exit(main())
