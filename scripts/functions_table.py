@@ -22,13 +22,14 @@ def defined():
     return files
 
 
-def cited(path, contract, files):
-    """The definitions of specs/ that a contract names, each with its file; their crate is read from the `ghost use` lines."""
+def cited(path, contract, files, parameters):
+    """The definitions of specs/ that a contract names, each with its file; their crate is read from the `ghost use` lines.
+    A parameter hides the definition of its name."""
     origin = {}
     for line in re.findall(r"^ghost use Rattle·(\w+)[·.]\S*?\.\{([^}]*)\};", path.read_text(), re.M):
         for name in line[1].split(","):
             origin[name.strip()] = line[0]
-    found, said = [], set()
+    found, said = [], {p.split(":")[0] for p in parameters}
     for name in re.findall(r"[A-Za-z]\w*", contract):
         file = files.get((origin.get(name), name))
         if file and name not in said:
@@ -85,10 +86,10 @@ def tables():
     files, wrong, order = defined(), wrong_programs(), re.findall(r"^(\w+):", (ROOT / "crates.txt").read_text(), re.M)
     shown = {seen_as(path): path for crate in order if (ROOT / "crates" / crate / "must-fail").is_dir() for path in public(ROOT / "crates" / crate)}
     rows = []
-    for crate, owner, name, _, _ in sorted(functions(), key=lambda f: order.index(f[0])):
+    for crate, owner, name, parameters, _ in sorted(functions(), key=lambda f: order.index(f[0])):
         seen = "::".join([crate] + [owner] * bool(owner) + [name])
         path, words, contract = told(crate, owner, name)
-        says = f"{words} {path.relative_to(ROOT)}; {cited(path, contract, files)}".rstrip("; ")
+        says = f"{words} {path.relative_to(ROOT)}; {cited(path, contract, files, parameters)}".rstrip("; ")
         rows.append((f"`{seen}`", says, f"`{named(owner, name)}`", *wrong.get(shown.get(seen), ["", ""])))
     hidden = [(f"`{path}`", words) for path in wrong if path not in shown.values() for words in wrong[path]]
     return {
