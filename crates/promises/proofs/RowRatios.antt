@@ -236,7 +236,7 @@ module _ (k : ℕ) (row : List ℕ) (ok : rowAllowed k row ≡ true) where
         inside = cut .inside;
         small = cut .small;
         position = cut .position;
-        weight = sym (weight-is (ownList (numbersOf row k) c) p refl on) ∙ cut-weight (bandAt ps) 4 q cut (freq-held p);
+        weight = sym (weight-is (ownList (numbersOf row k) c) p on) ∙ cut-weight (bandAt ps) 4 q cut (freq-held p);
         ratio = own-normal m c channel (indexOf q) (three (indexOf q) (cut .inside)) z;
         power = own-accurate m c channel (indexOf q) (three (indexOf q) (cut .inside)) z (cut .n) (cut .small);
       }

@@ -8,7 +8,6 @@ use native.Mathlib.Nat.{mul-le-mul}
 use native.Mathlib.Omega.{arith}
 use borrow.Author.Tests.{eqb-false}
 use lib.Dec.{T, eqb, lit≤}
-use lib.ListN.{length}
 use lib.IntN.{pos}
 use lib.Ieee.{Float, binary32, fits, round, add, sub, mul, div, ofInt}
 use lib.Ieee.Fits.{div-fits}
@@ -62,6 +61,6 @@ module _ (lo hi : ℕ) (room : Room lo hi) (bs : ℕ → Float) (n : ℕ) (bands
           (place-cut n w h y x (more (eqb-false n 1 e)) few wide not-wider high not-higher row column)
 
 -- mode 5's number at a place of FREQS that has one; only where all its four bands are above zero and leave room
-pub freq-within : (lo hi : ℕ) → Room lo hi → (ps : List Float) (k : ℕ) → length ps ≡ 4 → interpolated k ≡ true → ((i : ℕ) → i < 4 → Banded lo hi (bandAt (atOf ps) i)) → Within lo hi (freqWeight ps k)
-freq-within lo hi room ps k l on bands =
-    subst (Within lo hi) (weight-is ps k l on) (between-within lo hi room (bandAt (atOf ps)) 4 bands (freqPosition k) (freq-held k) (freq-cut k (on-small k on) on))
+pub freq-within : (lo hi : ℕ) → Room lo hi → (ps : List Float) (k : ℕ) → interpolated k ≡ true → ((i : ℕ) → i < 4 → Banded lo hi (bandAt (atOf ps) i)) → Within lo hi (freqWeight ps k)
+freq-within lo hi room ps k on bands =
+    subst (Within lo hi) (weight-is ps k on) (between-within lo hi room (bandAt (atOf ps)) 4 bands (freqPosition k) (freq-held k) (freq-cut k (on-small k on) on))
