@@ -85,8 +85,8 @@ def freqs(text):
     out = []
     for c in range(3):
         for k in range(16):
-            if len(p) != 12 or k in (0, 1, 4, 5):
-                out.append(NAN)
+            if k in (0, 1, 4, 5):
+                out.append(0)
             else:
                 out.append(bits(between(bands_of(p[c * 4:c * 4 + 4]), f32(f32(f32(table[k] - table[2]) * 3) / reach))))
     print("freqs", *out)
@@ -105,8 +105,6 @@ def main():
     call("1 1 2 3 1 3 1 1 3", 3, 16, 8, 384)
     freqs("414 0 0 0 22 -0.25 -0.25 -0.25 -22 3.25 -0.75 65504")
     freqs("0 3.25 -0.75 65504 58 0 0 0 1 1 2 3")
-    freqs("1 3.25 -0.75")
-    freqs("1 1 1 1 1 1 1 1 1 1 1 1 1")
     lines()
 
 

@@ -49,12 +49,15 @@ TOP = chain(1 << 32)
 
 
 def power(bits, n):
-    """P(q, n / 2^32) for the q with these bits."""
-    field = bits >> 23
-    if not 1 <= field < 255:
+    """P(q, n / 2^32) for the q with these bits, which has none where it is zero, negative, an infinity or a NaN."""
+    if not 0 < bits < INFINITY:
         return NAN
-    roots = chain(((1 << 23) + (bits & 0x7FFFFF)) << 8)
-    whole, g = divmod((field - 127) * n, 1 << 32)
+    q = value(bits)
+    e = q.numerator.bit_length() - q.denominator.bit_length()
+    s = q / Fraction(2) ** e
+    assert 1 <= s < 2
+    roots = chain(int(s * (1 << 31)))
+    whole, g = divmod(e * n, 1 << 32)
     y = 1 << 30
     for j in range(1, 33):
         if n >> (32 - j) & 1:
@@ -106,9 +109,15 @@ def lines():
         x = step(a)
         power_line(8388608 + a % 2130706432, x)
         power_line(1006632960 + a % 134217728, x)
+        power_line(a % 8388608, x)
+    for b in [1, 2, 3, 4194304, 8388607, 8388608]:
+        for n in [0, 1, 2147483648, 4294967295]:
+            power_line(b, n)
+    for n in [3631985767, 3631985768, 3660811050, 3660811051]:
+        power_line(1, n)
     for b, n in [
         (1065353216, 4294967295), (1065353216, 0), (1073741824, 2147483648), (1073741824, 1), (2139095039, 4294967295), (2139095039, 0),
-        (8388608, 4294967295), (8388608, 1), (8388607, 4294967295), (2139095040, 4294967295), (0, 5),
+        (2139095040, 4294967295), (0, 5),
     ]:
         power_line(b, n)
     x = 2

@@ -42,7 +42,7 @@ fn whole_line(x: u64) {
     end_line();
 }
 
-// Powers of any normal q, and of as many near 1.
+// Powers of any normal q, of as many near 1, and of as many subnormal ones.
 fn powers() {
     let mut x: u64 = 1;
     let mut i: u64 = 0;
@@ -51,6 +51,7 @@ fn powers() {
         x = next(a);
         power_line((8388608 + a % 2130706432) as u32, x as u32);
         power_line((1006632960 + a % 134217728) as u32, x as u32);
+        power_line((a % 8388608) as u32, x as u32);
         i += 1;
     }
 }
@@ -79,7 +80,30 @@ fn wholes() {
     }
 }
 
-// 1, 2, the largest, the least normal, the largest subnormal, the infinity and 0.
+// P at 0, at the least fraction above it, at a half and at the largest below 1.
+fn power_ends(b: u32) {
+    power_line(b, 0);
+    power_line(b, 1);
+    power_line(b, 2147483648);
+    power_line(b, 4294967295);
+}
+
+// The least subnormal, two and three times that, half of the least normal, the largest subnormal, the least normal;
+// then powers of the least on both sides of the least normal, and of half of it.
+fn power_smalls() {
+    power_ends(1);
+    power_ends(2);
+    power_ends(3);
+    power_ends(4194304);
+    power_ends(8388607);
+    power_ends(8388608);
+    power_line(1, 3631985767);
+    power_line(1, 3631985768);
+    power_line(1, 3660811050);
+    power_line(1, 3660811051);
+}
+
+// 1, 2, the largest, the infinity and 0.
 fn power_edges() {
     power_line(1065353216, 4294967295);
     power_line(1065353216, 0);
@@ -87,9 +111,6 @@ fn power_edges() {
     power_line(1073741824, 1);
     power_line(2139095039, 4294967295);
     power_line(2139095039, 0);
-    power_line(8388608, 4294967295);
-    power_line(8388608, 1);
-    power_line(8388607, 4294967295);
     power_line(2139095040, 4294967295);
     power_line(0, 5);
 }
@@ -121,6 +142,7 @@ fn whole_edges() {
 
 pub(crate) fn all() {
     powers();
+    power_smalls();
     power_edges();
     roots();
     root_edges();

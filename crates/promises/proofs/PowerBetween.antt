@@ -18,7 +18,7 @@ use Rattle.bands.proofs.Rounding.{largest, Near32, near32}
 use Rattle.bands.proofs.Powers.{root-small}
 use Rattle.bands.proofs.Ranged.{Banded}
 use Rattle.bands.proofs.BandRatios.{round-normal}
-use Rattle.bands.proofs.Accuracy.{accurate, positive-power}
+use Rattle.bands.proofs.Accuracy.{accurate}
 
 -- ---- the power of q = c / b at n / N, which is p / d: at most the larger of 1 and q, times 1.000001, and at least the smaller of both, times 0.999999
 over-all : (c b n p d W N : ℕ) → 0 < N → n ≤ N → b ≤ W → c ≤ W → (p * 1000000) ^ N * b ^ n ≤ c ^ n * (d * 1000001) ^ N → p * 1000000 * b ≤ W * (d * 1000001)
@@ -31,18 +31,20 @@ under-all c b n p d L N z l h g x =
     (le-trans (mul-le-mul-left ((d * 999999) ^ N) (native.Mathlib.Nat.pow-le-pow-left g n))
     (le-trans (le-of-eq (mul-comm ((d * 999999) ^ N) (c ^ n))) (le-trans x (le-of-eq (mul-comm ((p * 1000000) ^ N) (b ^ n))))))
 
--- with q = num q / den q and r = num r / den r: r x 1,000,000 <= W / den q x 1,000,001 for a W that is no less than both, so for the larger of 1 and q; and likewise below
+-- r is above zero, and with q = num q / den q and r = num r / den r: r x 1,000,000 <= W / den q x 1,000,001 for a W that is no less than both, so for the larger of 1 and q; and likewise below
 pub record Between (q r : Float) : Type 0 where
+  pub above : T (positive r)
   pub over : (W : ℕ) → den q ≤ W → num q ≤ W → num r * 1000000 * den q ≤ W * (den r * 1000001)
   pub under : (L : ℕ) → L ≤ den q → L ≤ num q → den r * 999999 * L ≤ den q * (num r * 1000000)
 
--- for normal q, P(q, n / 2 ^ 32) lies between 1 and q, up to one part in 1,000,000
+-- for normal q, P(q, n / 2 ^ 32) is above zero and lies between 1 and q, up to one part in 1,000,000
 pub power-between : (q : Float) (n : ℕ) → T (fits binary32 q) → T (normal q) → n < 2 ^ 32 → Between q (P q n)
 power-between q n f t h =
     let a = accurate q n f t h in
     record {
-      over = λ W x y. over-all (num q) (den q) n (num (P q n)) (den (P q n)) W (2 ^ 32) (pow-pos 32) (le-of-lt h) x y (a .over);
-      under = λ L x y. under-all (num q) (den q) n (num (P q n)) (den (P q n)) L (2 ^ 32) (pow-pos 32) (le-of-lt h) x y (a .under);
+      above = a .above;
+      over = λ W x y. over-all (num q) (den q) n (num (P q n)) (den (P q n)) W (2 ^ 32) (pow-pos 32) (le-of-lt h) x y (a .close .over);
+      under = λ L x y. under-all (num q) (den q) n (num (P q n)) (den (P q n)) L (2 ^ 32) (pow-pos 32) (le-of-lt h) x y (a .close .under);
     }
 
 -- ---- the weight: a is A units of 2 ^ -149, q is c / b, P is p / d, the weight n / e
@@ -143,9 +145,6 @@ module _ (lo hi : ℕ) (room : Room lo hi) (a b : Float) (x : Banded lo hi a) (y
   a-above = positive-of-value a A (2 ^ 149) (x .value) (above A (x .least))
 
   module _ (k : ℕ) (K : k < 2 ^ 32) where
-    r-above : T (positive (P (div binary32 b a) k))
-    r-above = positive-power (div binary32 b a) k (div-fits binary32 b a) ratio-is-normal K
-
     r-between : Between (div binary32 b a) (P (div binary32 b a) k)
     r-between = power-between (div binary32 b a) k (div-fits binary32 b a) ratio-is-normal K
 
@@ -209,7 +208,7 @@ module _ (lo hi : ℕ) (room : Room lo hi) (a b : Float) (x : Banded lo hi a) (y
         (le-of-eq (mul-assoc largest (2 ^ 149) (den (P (div binary32 b a) k))))
 
     w-is : mul binary32 a (P (div binary32 b a) k) ≡ round binary32 false (A * num (P (div binary32 b a) k)) (2 ^ 149 * den (P (div binary32 b a) k))
-    w-is = mul-at binary32 a (P (div binary32 b a) k) A (2 ^ 149) (num (P (div binary32 b a) k)) (den (P (div binary32 b a) k)) a-above r-above (pow-pos 149) (den-pos (P (div binary32 b a) k)) (x .value) (own-value (P (div binary32 b a) k) r-above)
+    w-is = mul-at binary32 a (P (div binary32 b a) k) A (2 ^ 149) (num (P (div binary32 b a) k)) (den (P (div binary32 b a) k)) a-above (r-between .above) (pow-pos 149) (den-pos (P (div binary32 b a) k)) (x .value) (own-value (P (div binary32 b a) k) (r-between .above))
 
     w-near : Near32 (A * num (P (div binary32 b a) k)) (2 ^ 149 * den (P (div binary32 b a) k)) (mul binary32 a (P (div binary32 b a) k))
     w-near =

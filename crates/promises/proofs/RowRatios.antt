@@ -4,35 +4,31 @@ use mathlib.Core.Logic.{_⊎_, inl, inr, ⊎-elim}
 use mathlib.Core.Bool.{Bool, true, false, cond, true≢false}
 use mathlib.Core.List.{List, [], _∷_}
 use Prim.Native.Nat.{ℕ, zero, suc, _+_, _-_, _*_, _^_, _≤_, _<_}
-use native.Mathlib.Nat.{lt-irrefl, mul-pos, zero-mul, zero-lt-suc}
 use native.Mathlib.Omega.{arith}
 use borrow.Author.Tests.{eqb-true, eqb-false, ne-eqb}
-use lib.Dec.{T, leb, eqb, lit<, lit≤}
-use lib.IntN.{pos}
+use lib.Dec.{T, leb, eqb, lit≤}
 use lib.ListN.{getD}
-use lib.Ieee.{Float, nan, inf, fin, binary32, up, down, unlike, fits, round, add, sub, mul, div, ofInt}
-use lib.Ieee.Exact.{HasValue, round-exact}
-use lib.Ieee.Fits.{up-pos, down-pos, div-fits}
-use lib.Ieee.Positive.{num, den, positive}
+use lib.Ieee.{Float, nan, inf, fin, binary32, mul, div}
+use lib.Ieee.Exact.{HasValue}
+use lib.Ieee.Fits.{div-fits}
+use lib.Ieee.Positive.{positive}
 use Rattle.params.specs.Row.{lists}
 use Rattle.params.specs.Allowed.{countOk, rowAllowed}
-use Rattle.bands.specs.Close.{Close}
+use Rattle.bands.specs.Close.{Accurate}
 use Rattle.bands.specs.Power.{normal, P}
-use Rattle.bands.specs.Bands.{atOf, bandAt, multOf, sound}
+use Rattle.bands.specs.Bands.{atOf, bandAt, sound}
 use Rattle.bands.specs.Distance.{distanceOf}
-use Rattle.bands.specs.Position.{reachOf, positionOf, indexOf, Cut}
+use Rattle.bands.specs.Position.{positionOf, indexOf, Cut}
 use Rattle.bands.specs.Weights.{segmentWeight, between, bandWeight}
 use Rattle.bands.specs.Quant.{gridded, soundOf}
-use Rattle.bands.specs.Freqs.{freq, freqPosition, freqWeight}
+use Rattle.bands.specs.Freqs.{freqPosition, freqWeight}
 use Rattle.bands.specs.Freqs.{interpolated as interpolates}
 use Rattle.bands.proofs.Freqs.{freq-cut, on-small, weight-is}
 use Rattle.bands.proofs.Asserts.{place-cut}
 use Rattle.bands.proofs.LentLaws.{grid-sides}
 use Rattle.promises.proofs.Steps.{steps-is}
 use Rattle.bands.proofs.Accuracy.{accurate}
-use Rattle.bands.proofs.MultRange.{mult-banded, moderate}
-use Rattle.bands.proofs.Sound.{opened, first-band}
-use Rattle.bands.proofs.Formed.{Given, Own, ratioAt, isZero, ratio-formed, own-formed, formed-accurate}
+use Rattle.bands.proofs.Formed.{Given, ratioAt, isZero, ratio-formed, own-formed, zero-ratio, formed-accurate}
 use Rattle.promises.proofs.ByNumber.{done-only}
 use Rattle.matrix.specs.Expanded.{replyOf, isDone, bandAnswer}
 use Rattle.matrix.specs.declared.numbers.Numbers.{Numbers}
@@ -41,50 +37,7 @@ use Rattle.matrix.proofs.RowFacts.{facts, raw-numbers, row-shaped}
 use Rattle.matrix.proofs.Answered.{all-sound, all-sound-2}
 use Rattle.promises.proofs.RowNumbers.{listNumber, ownList, named, list-given, own-given}
 
--- zero times what is above zero is zero, and zero over zero is NaN
-zero-times : (x m : Float) → T (isZero x) → T (positive m) → T (isZero (mul binary32 x m))
-unfolding mul
-zero-times nan m t p = absurd t
-zero-times (inf s) m t p = absurd t
-zero-times (fin s (suc k) e) m t p = absurd t
-zero-times (fin s zero e) nan t p = absurd p
-zero-times (fin s zero e) (inf u) t p = absurd p
-zero-times (fin s zero e) (fin true n d) t p = absurd p
-zero-times (fin s zero e) (fin false n d) t p =
-    value (round binary32 (unlike s false) (0 * up e * (n * up d)) (down e * down d)) (unlike s false) (down e * down d) C
-    (subst (λ (a : ℕ). HasValue (round binary32 (unlike s false) a (down e * down d)) (unlike s false) 0 (down e * down d)) (sym (ap (λ (w : ℕ). w * (n * up d)) (zero-mul (up e)) ∙ zero-mul (n * up d)))
-    (round-exact binary32 (unlike s false) 0 (down e * down d) 0 0 C (lit< tt) (lit< tt) (sym (zero-mul (down e * down d)))))
-  where
-    C : 0 < down e * down d
-    C = mul-pos (down-pos e) (down-pos d)
-
-    value : (x : Float) (s : Bool) (c : ℕ) → 0 < c → HasValue x s 0 c → T (isZero x)
-    value nan s c C h = absurd h
-    value (inf t) s c C h = absurd h
-    value (fin t zero e) s c C h = tt
-    value (fin t (suc m) e) s c C h = absurd (lt-irrefl 0 (subst (λ (z : ℕ). 0 < z) (h .1 ∙ zero-mul (down e)) (mul-pos (mul-pos (zero-lt-suc m) (up-pos e)) C)))
-
-zero-over : (x y : Float) → T (isZero x) → T (isZero y) → div binary32 x y ≡ nan
-unfolding div
-zero-over nan y t u = absurd t
-zero-over (inf s) y t u = absurd t
-zero-over (fin s (suc m) e) y t u = absurd t
-zero-over (fin s zero e) nan t u = absurd u
-zero-over (fin s zero e) (inf v) t u = absurd u
-zero-over (fin s zero e) (fin v (suc n) d) t u = absurd u
-zero-over (fin s zero e) (fin v zero d) t u = refl
-
-zero-bands : (ps : ℕ → Float) → Own ps → T (isZero (ps 0)) → (i : ℕ) → i < 4 → T (isZero (bandAt ps i))
-zero-bands ps o z zero h = subst (λ (x : Float). T (isZero x)) (sym (first-band ps)) z
-zero-bands ps o z (suc i) h =
-    subst (λ (x : Float). T (isZero x)) (opened ps i)
-    (zero-times (bandAt ps i) (multOf (ps (suc i))) (zero-bands ps o z i (omega arith)) (moderate (multOf (ps (suc i))) (mult-banded (ps (suc i)) (o .held (suc i) h) (o .later (suc i) (omega arith) h)) .above))
-
--- the power P of q at f / 2 ^ 32 is within one part in 1,000,000 of the true one
-abbrev pub Accurate : Float → ℕ → Type 0
-Accurate q f = Close (num q) (den q) f (num (P q f)) (den (P q f))
-
--- of the n bands of ps, z is a x P(b / a, f / 2 ^ 32), with a and b the bands i and i + 1 where the position p is i + f / 2 ^ 32; b / a is normal, and P of it accurate
+-- of the n bands of ps, z is a x P(b / a, f / 2 ^ 32), with a and b the bands i and i + 1 where the position p is i + f / 2 ^ 32; b / a is normal, and P of it above zero and accurate
 pub record Interpolated (ps : ℕ → Float) (n : ℕ) (p z : Float) : Type 0 where
   pub i : ℕ
   pub f : ℕ
@@ -95,13 +48,9 @@ pub record Interpolated (ps : ℕ → Float) (n : ℕ) (p z : Float) : Type 0 wh
   pub ratio : T (normal (ratioAt ps i))
   pub power : Accurate (ratioAt ps i) f
 
-position-held : (d : Float) (n : ℕ) → T (fits binary32 (positionOf d n))
-unfolding positionOf
-position-held d n = div-fits binary32 (mul binary32 d (ofInt binary32 (pos (n - 1)))) reachOf
-
-cut-weight : (bs : ℕ → Float) (n : ℕ) (p : Float) (c : Cut n p) → T (fits binary32 p) → between bs p ≡ mul binary32 (bs (indexOf p)) (P (div binary32 (bs (indexOf p + 1)) (bs (indexOf p))) (c .n))
+cut-weight : (bs : ℕ → Float) (n : ℕ) (p : Float) (c : Cut n p) → between bs p ≡ mul binary32 (bs (indexOf p)) (P (div binary32 (bs (indexOf p + 1)) (bs (indexOf p))) (c .n))
 unfolding between segmentWeight
-cut-weight bs n p c held = ap (λ (k : ℕ). mul binary32 (bs (indexOf p)) (P (div binary32 (bs (indexOf p + 1)) (bs (indexOf p))) k)) (steps-is p n c held)
+cut-weight bs n p c = ap (λ (k : ℕ). mul binary32 (bs (indexOf p)) (P (div binary32 (bs (indexOf p + 1)) (bs (indexOf p))) k)) (steps-is p n c)
 
 many-weight : (bs : ℕ → Float) (n w h y x : ℕ) → 2 ≤ n → bandWeight bs n w h y x ≡ between bs (positionOf (distanceOf x y (w - 1) (h - 1)) n)
 unfolding bandWeight
@@ -117,14 +66,10 @@ interpolated ps n w h y x g s many few wide not-wider high not-higher row column
       inside = c .inside;
       small = c .small;
       position = c .position;
-      weight = many-weight (bandAt ps) n w h y x many ∙ cut-weight (bandAt ps) n p c (position-held (distanceOf x y (w - 1) (h - 1)) n);
+      weight = many-weight (bandAt ps) n w h y x many ∙ cut-weight (bandAt ps) n p c;
       ratio = ratio-formed ps n g s (indexOf p) (c .inside);
       power = formed-accurate ps n g s (indexOf p) (c .n) (c .inside) (c .small);
     }
-
-freq-held : (k : ℕ) → T (fits binary32 (freqPosition k))
-unfolding freqPosition
-freq-held k = div-fits binary32 (mul binary32 (sub binary32 (freq k) (freq 2)) (ofInt binary32 (pos 3))) (add binary32 (sub binary32 (freq 15) (freq 2)) (round binary32 false 1 1000000))
 
 module _ (k : ℕ) (row : List ℕ) (ok : rowAllowed k row ≡ true) where
   -- ---- a list whose bands are not refused
@@ -133,7 +78,7 @@ module _ (k : ℕ) (row : List ℕ) (ok : rowAllowed k row ≡ true) where
     pub row-ratio : T (normal (ratioAt (listNumber (numbersOf row k) l c) i))
     row-ratio = ratio-formed (listNumber (numbersOf row k) l c) (count (numbersOf row k) l) (list-given k row ok l c channel (omega arith)) s i h
 
-    -- and the power P of it at f / 2 ^ 32 is within one part in 1,000,000 of the true one
+    -- and the power P of it at f / 2 ^ 32 is above zero, and within one part in 1,000,000 of the true one
     pub row-accurate : (f : ℕ) → f < 2 ^ 32 → Accurate (ratioAt (listNumber (numbersOf row k) l c) i) f
     row-accurate f g = formed-accurate (listNumber (numbersOf row k) l c) (count (numbersOf row k) l) (list-given k row ok l c channel (omega arith)) s i f h g
 
@@ -218,10 +163,7 @@ module _ (k : ℕ) (row : List ℕ) (ok : rowAllowed k row ≡ true) where
 
     -- where p5 is zero, the ratio is 0 / 0: a NaN
     pub own-nan : T (isZero (numberOf (numbersOf row k) c 5)) → ratioAt (atOf (ownList (numbersOf row k) c)) i ≡ nan
-    own-nan z =
-        let ps = atOf (ownList (numbersOf row k) c) in
-        let o = own-given k row ok c mode channel in
-        zero-over (bandAt ps (i + 1)) (bandAt ps i) (zero-bands ps o z (i + 1) (omega arith)) (zero-bands ps o z i (omega arith))
+    own-nan z = zero-ratio (atOf (ownList (numbersOf row k) c)) (own-given k row ok c mode channel) z i h
 
   -- so every number that mode 5 interpolates over FREQS is such a one, where p5 is not zero
   pub own-interpolated : numbersOf row k .mode ≡ 5 → (c p : ℕ) → c < 3 → interpolates p ≡ true → isZero (numberOf (numbersOf row k) c 5) ≡ false
@@ -236,7 +178,7 @@ module _ (k : ℕ) (row : List ℕ) (ok : rowAllowed k row ≡ true) where
         inside = cut .inside;
         small = cut .small;
         position = cut .position;
-        weight = sym (weight-is (ownList (numbersOf row k) c) p refl on) ∙ cut-weight (bandAt ps) 4 q cut (freq-held p);
+        weight = sym (weight-is (ownList (numbersOf row k) c) p on) ∙ cut-weight (bandAt ps) 4 q cut;
         ratio = own-normal m c channel (indexOf q) (three (indexOf q) (cut .inside)) z;
         power = own-accurate m c channel (indexOf q) (three (indexOf q) (cut .inside)) z (cut .n) (cut .small);
       }

@@ -26,6 +26,6 @@ module _ (x : Float) (n : ℕ) (small : n < 2 ^ 64) (held : T (fits binary32 x))
   raised-is : toUnsigned 64 (mul binary32 x (ofBits binary32 0x4f80_0000)) ≡ n
   raised-is = index-value (mul binary32 x (ofBits binary32 0x4f80_0000)) (n * 2 ^ 32) (2 ^ 32) (pow-pos 32) raised-under raised-value ∙ mul-div-cancel n (pow-pos 32)
 
-pub steps-is : (p : Float) (b : ℕ) (c : Cut b p) → T (fits binary32 p) → stepsOf (fractionOf p) ≡ c .n
+pub steps-is : (p : Float) (b : ℕ) (c : Cut b p) → stepsOf (fractionOf p) ≡ c .n
 unfolding ofBits
-steps-is p b c held = raised-is (fractionOf p) (c .n) (lt-of-lt-of-le (c .small) (lit≤ tt)) (sub-fits binary32 p (ofInt binary32 (pos (indexOf p)))) (c .fraction)
+steps-is p b c = raised-is (fractionOf p) (c .n) (lt-of-lt-of-le (c .small) (lit≤ tt)) (sub-fits binary32 p (ofInt binary32 (pos (indexOf p)))) (c .fraction)

@@ -267,7 +267,7 @@ module _ (n : Numbers) (k : ℕ) (shaped : Shaped n k) (t : Tame n) (c y x : ℕ
       go false false true f i j k l = number-good 5 3 e (lit< tt)
       go false false false true i j k l = number-good 5 4 e (lit< tt)
       go false false false false i j k l =
-          fair-good (freqWeight (ownList n c) p) (within-fair (freqWeight (ownList n c) p) (freq-within (2 ^ 125) (2 ^ 189) tame-room (ownList n c) p refl (on i j k l) (λ z g. t .own e c z hc g)))
+          fair-good (freqWeight (ownList n c) p) (within-fair (freqWeight (ownList n c) p) (freq-within (2 ^ 125) (2 ^ 189) tame-room (ownList n c) p (on i j k l) (λ z g. t .own e c z hc g)))
 
   good5 : n .mode ≡ 5 → (y x : ℕ) (a b : Float) → y < 8 → x < 8 → Fair a → Fair b → Good (mode5 (numberOf n c) y x a b)
   unfolding mode5

@@ -7,30 +7,19 @@ use Prim.Native.Nat.{ℕ, _+_, _-_, _≤_, _<_}
 use native.Mathlib.Nat.{mul-le-mul}
 use native.Mathlib.Omega.{arith}
 use borrow.Author.Tests.{eqb-false}
-use lib.Dec.{T, eqb, lit≤}
-use lib.ListN.{length}
-use lib.IntN.{pos}
-use lib.Ieee.{Float, binary32, fits, round, add, sub, mul, div, ofInt}
-use lib.Ieee.Fits.{div-fits}
+use lib.Dec.{eqb, lit≤}
+use lib.Ieee.{Float, binary32, mul, div}
 use Rattle.bands.specs.Bands.{atOf, bandAt}
 use Rattle.bands.specs.Distance.{distanceOf}
-use Rattle.bands.specs.Position.{reachOf, positionOf, indexOf, Cut}
+use Rattle.bands.specs.Position.{positionOf, indexOf, Cut}
 use Rattle.bands.specs.Power.{P}
 use Rattle.bands.specs.Weights.{segmentWeight, between, bandWeight}
-use Rattle.bands.specs.Freqs.{freq, freqPosition, interpolated, freqWeight}
+use Rattle.bands.specs.Freqs.{freqPosition, interpolated, freqWeight}
 use Rattle.bands.proofs.Ranged.{Banded}
 use Rattle.promises.proofs.Steps.{steps-is}
 use Rattle.bands.proofs.Freqs.{freq-cut, on-small, weight-is}
 use Rattle.bands.proofs.Asserts.{place-cut}
 use Rattle.promises.proofs.PowerBetween.{Within, Room, segment-within}
-
-position-held : (d : Float) (n : ℕ) → T (fits binary32 (positionOf d n))
-unfolding positionOf
-position-held d n = div-fits binary32 (mul binary32 d (ofInt binary32 (pos (n - 1)))) reachOf
-
-freq-held : (k : ℕ) → T (fits binary32 (freqPosition k))
-unfolding freqPosition
-freq-held k = div-fits binary32 (mul binary32 (sub binary32 (freq k) (freq 2)) (ofInt binary32 (pos 3))) (add binary32 (sub binary32 (freq 15) (freq 2)) (round binary32 false 1 1000000))
 
 -- a band itself
 banded-within : (lo hi : ℕ) (z : Float) → Banded lo hi z → Within lo hi z
@@ -38,10 +27,10 @@ banded-within lo hi z b = record { at = b .at; value = b .value; most = mul-le-m
 
 module _ (lo hi : ℕ) (room : Room lo hi) (bs : ℕ → Float) (n : ℕ) (bands : (i : ℕ) → i < n → Banded lo hi (bs i)) where
   -- at any position among the bands
-  between-within : (p : Float) → T (fits binary32 p) → Cut n p → Within lo hi (between bs p)
+  between-within : (p : Float) → Cut n p → Within lo hi (between bs p)
   unfolding between segmentWeight
-  between-within p held c =
-      subst (λ (k : ℕ). Within lo hi (mul binary32 (bs (indexOf p)) (P (div binary32 (bs (indexOf p + 1)) (bs (indexOf p))) k))) (sym (steps-is p n c held))
+  between-within p c =
+      subst (λ (k : ℕ). Within lo hi (mul binary32 (bs (indexOf p)) (P (div binary32 (bs (indexOf p + 1)) (bs (indexOf p))) k))) (sym (steps-is p n c))
       (segment-within lo hi room (bs (indexOf p)) (bs (indexOf p + 1)) (bands (indexOf p) (one-less (indexOf p) n (c .inside))) (bands (indexOf p + 1) (c .inside)) (c .n) (c .small))
     where
       one-less : (i n : ℕ) → i + 1 < n → i < n
@@ -58,10 +47,10 @@ module _ (lo hi : ℕ) (room : Room lo hi) (bs : ℕ → Float) (n : ℕ) (bands
       go : (b : Bool) → eqb n 1 ≡ b → Within lo hi (cond b (bs 0) (between bs (positionOf (distanceOf x y (w - 1) (h - 1)) n)))
       go true e = banded-within lo hi (bs 0) (bands 0 some)
       go false e =
-          between-within (positionOf (distanceOf x y (w - 1) (h - 1)) n) (position-held (distanceOf x y (w - 1) (h - 1)) n)
+          between-within (positionOf (distanceOf x y (w - 1) (h - 1)) n)
           (place-cut n w h y x (more (eqb-false n 1 e)) few wide not-wider high not-higher row column)
 
 -- mode 5's number at a place of FREQS that has one; only where all its four bands are above zero and leave room
-pub freq-within : (lo hi : ℕ) → Room lo hi → (ps : List Float) (k : ℕ) → length ps ≡ 4 → interpolated k ≡ true → ((i : ℕ) → i < 4 → Banded lo hi (bandAt (atOf ps) i)) → Within lo hi (freqWeight ps k)
-freq-within lo hi room ps k l on bands =
-    subst (Within lo hi) (weight-is ps k l on) (between-within lo hi room (bandAt (atOf ps)) 4 bands (freqPosition k) (freq-held k) (freq-cut k (on-small k on) on))
+pub freq-within : (lo hi : ℕ) → Room lo hi → (ps : List Float) (k : ℕ) → interpolated k ≡ true → ((i : ℕ) → i < 4 → Banded lo hi (bandAt (atOf ps) i)) → Within lo hi (freqWeight ps k)
+freq-within lo hi room ps k on bands =
+    subst (Within lo hi) (weight-is ps k on) (between-within lo hi room (bandAt (atOf ps)) 4 bands (freqPosition k) (freq-cut k (on-small k on) on))

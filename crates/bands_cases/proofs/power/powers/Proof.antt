@@ -43,6 +43,15 @@ cast-power-line-4 c = search needs
 power-line-requires-2 : tie.Need-power-line-requires-2 Inv-loop μ-loop
 power-line-requires-2 c κs = search needs
 
+cast-power-line-5 : tie.Need-cast-power-line-5 Inv-loop μ-loop
+cast-power-line-5 c = search needs
+
+cast-power-line-6 : tie.Need-cast-power-line-6 Inv-loop μ-loop
+cast-power-line-6 c = search needs
+
+power-line-requires-3 : tie.Need-power-line-requires-3 Inv-loop μ-loop
+power-line-requires-3 c κs = search needs
+
 add-i : tie.Need-add-i Inv-loop μ-loop
 add-i c = search needs
 
@@ -72,6 +81,9 @@ powers-spec =
     cast-power-line-3
     cast-power-line-4
     power-line-requires-2
+    cast-power-line-5
+    cast-power-line-6
+    power-line-requires-3
     add-i
     loop-less
     loop-again
