@@ -31,7 +31,7 @@ fn show_places(part: &[f32], places: &[u8]) {
     let n = places.len() / 4;
     let mut i = 0;
     while i < n {
-        show_place(part, show::size(places, i));
+        show_place(part, show::word(places, i) as usize);
         i += 1;
     }
 }

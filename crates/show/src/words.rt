@@ -1,29 +1,22 @@
 // Numbers of an input: words of four bytes, the lowest first.
-use crate::parts::bytes;
+ghost use mathlib.Core.Path.{_≡_};
+ghost use Prim.Native.Nat.{_<_};
+ghost use Rattle.show.specs.Input.{wordAt};
 
-fn wide(x: u8) -> u32 {
+fn wide(x: u8) -> u32
+    ensures { λ r. ⌜ (r ≡ x) × (r < 256) ⌝ }
+{
     x as u32
 }
 
-// A number, its lowest byte first.
-fn number(part: &[u8]) -> u32 {
-    let mut v: u32 = 0;
-    let mut i = part.len();
-    while i > 0 {
-        i -= 1;
-        v = (v << 8) | wide(part[i]);
+// The word number j, or 0 where it isn't there.
+pub fn word(s: &[u8], j: usize) -> u32
+    ensures { λ r. ⌜ r ≡ wordAt (now (s .entry)) j ⌝ }
+{
+    if j < s.len() / 4 {
+        let at = 4 * j;
+        return wide(s[at])
+            + 256 * (wide(s[at + 1]) + 256 * (wide(s[at + 2]) + 256 * wide(s[at + 3])));
     }
-    v
-}
-
-// The word number j; there are at most 65,536 that count.
-pub(crate) fn word(s: &[u8], j: usize) -> u32 {
-    if j > 65535 {
-        return 0;
-    }
-    number(bytes(s, 4 * j, 4))
-}
-
-pub fn size(s: &[u8], j: usize) -> usize {
-    word(s, j) as usize
+    0
 }

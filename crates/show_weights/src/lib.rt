@@ -1,14 +1,20 @@
-// What programs write of weights and of an expansion's reply. What is written no contract can say: each function is proved safe and
-// ending.
+// What programs write of weights and of an expansion's reply. Which functions have a contract: see the head of `show`.
 use libc::STDOUT_FILENO;
 use matrix::Expanded;
+ghost use mathlib.Core.Path.{_≡_};
+ghost use lib.Ieee.{binary32, toBits};
+ghost use Rattle.show_weights.specs.Total.{totalOf};
 
-fn wide(x: u32) -> u64 {
+fn wide(x: u32) -> u64
+    ensures { λ r. ⌜ r ≡ x ⌝ }
+{
     x as u64
 }
 
-// A weight's bits; a NaN counts as 7fc00000.
-pub fn bits(x: f32) -> u64 {
+// A weight's bits; those of a NaN are 7fc00000, as the logic's `toBits` has them.
+pub fn bits(x: f32) -> u64
+    ensures { λ r. ⌜ r ≡ toBits binary32 x ⌝ }
+{
     if x != x {
         return 0x7fc00000;
     }
@@ -17,7 +23,9 @@ pub fn bits(x: f32) -> u64 {
 
 // The 64-bit total of bits x (place + 1), wrapping round: from the last place on, each weight's bits are in the running
 // sum once for each place up to its own.
-pub fn total(part: &[f32]) -> u64 {
+pub fn total(part: &[f32]) -> u64
+    ensures { λ r. ⌜ r ≡ totalOf (now (part .entry)) ⌝ }
+{
     let mut running: u64 = 0;
     let mut sum: u64 = 0;
     let mut i = part.len();
@@ -30,8 +38,8 @@ pub fn total(part: &[f32]) -> u64 {
 }
 
 // A weight's bits, as eight hexadecimal digits.
-fn weight(x: f32) -> bool {
-    io::print_hex(STDOUT_FILENO, bits(x), 8)
+fn weight(x: f32) {
+    io::print_hex(STDOUT_FILENO, bits(x), 8);
 }
 
 // A weight, a comma before each but the first.
@@ -58,19 +66,19 @@ pub fn weight_at(part: &[f32], i: usize) {
     }
 }
 
-fn one(number: u64, kind: usize) -> bool {
+fn one(number: u64, kind: usize) {
     show::decimal(number);
-    show::next(kind as u64)
+    show::next(kind as u64);
 }
 
-fn three(number: u64, kind: usize, channel: usize, last: usize) -> bool {
+fn three(number: u64, kind: usize, channel: usize, last: usize) {
     one(number, kind);
     show::next(channel as u64);
-    show::next(last as u64)
+    show::next(last as u64);
 }
 
 // The reply of an expansion: document 01's number, and its values.
-pub fn reply(r: Expanded) -> bool {
+pub fn reply(r: Expanded) {
     match r {
         Expanded::Done => show::decimal(0),
         Expanded::Lent => show::decimal(1),
