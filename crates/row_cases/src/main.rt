@@ -7,15 +7,15 @@ use record::Taken;
 use record::Written;
 use show::field;
 
+mod rows;
 mod samples;
 mod text;
 
 // A reply of one number and one value.
 fn reply(number: u64, value: usize) {
     show::decimal(number);
-    show::text(b" ");
-    show::decimal(value as u64);
-    show::text(b"\n");
+    show::next(value as u64);
+    show::end();
 }
 
 // A record, or of a long one the total.
@@ -98,7 +98,7 @@ fn read(source: &[u8], rows: &mut [u16], part: &mut [i32]) {
     show::fill_samples(part, 77, 0, 0);
     let r = record::read_record(source, rows, part);
     show_taken(r);
-    show::rows(rows);
+    rows::show_rows(rows);
     show_samples(part);
 }
 
@@ -116,19 +116,11 @@ fn write_case(s: &[u8], at: usize, part: &mut [i32], buffer: &mut [u8]) {
     write_rows(s, at, show::first_i32(part, field(s, at, 3)), buffer);
 }
 
-// The first n numbers, or none where there are fewer.
-fn first_rows<'a>(rows: &'a mut [u16], n: usize) -> &'a mut [u16] {
-    if rows.len() < n {
-        return &mut rows[..0];
-    }
-    &mut rows[0..n]
-}
-
 fn read_case(s: &[u8], at: usize, source: &[u8], part: &mut [i32]) {
     let mut rows = [0xabcdu16; 2304];
     read(
         source,
-        first_rows(&mut rows, field(s, at, 7)),
+        rows::first(&mut rows, field(s, at, 7)),
         samples::first(part, field(s, at, 3)),
     );
 }
@@ -144,7 +136,7 @@ fn read_header(header: &[u8], bit: usize, kind: usize, rows: &mut [u16]) {
     show::text(b"reply=");
     show::reading(r);
     show::end();
-    show::rows(rows);
+    rows::show_rows(rows);
 }
 
 fn header_case(s: &[u8], at: usize) {
@@ -153,7 +145,7 @@ fn header_case(s: &[u8], at: usize) {
         show::named(s, at, 10),
         field(s, at, 13),
         field(s, at, 14),
-        first_rows(&mut rows, field(s, at, 7)),
+        rows::first(&mut rows, field(s, at, 7)),
     );
 }
 

@@ -6,7 +6,7 @@ use native.Mathlib.Nat.{sub-zero, zero-mod, mod-add-mod, zero-mul, add-mul, one-
 use native.Mathlib.Numerals.{add-one}
 use native.Mathlib.Omega.{arith}
 use borrow.Author.Tests.{lt-leb, le-leb}
-use lib.ListN.{length, take, set}
+use lib.ListN.{length, take, drop, set}
 use Rattle.show.specs.Input.{firstOf}
 use Rattle.show.specs.Filled.{stored, modulo}
 
@@ -45,3 +45,7 @@ modulo-more p step (suc m) = mod-add-mod (p * step) (suc m) step ∙ ap (λ (x :
 pub stored-more : {A : Type 0} (at : ℕ → ℕ) (what : ℕ → A) (j : ℕ) (l m : List A) (i : ℕ) (a : A) → m ≡ stored at what j l → i ≡ at j → a ≡ what j → set m i a ≡ stored at what (j + 1) l
 unfolding stored
 stored-more at what j l m i a e f g = rw (add-one, e, f, g)
+
+-- a part by where it begins and its length
+pub part-is : (s : List ℕ) {t r : List ℕ} {a b n m : ℕ} → r ≡ firstOf n t → t ≡ drop a s → a ≡ b → n ≡ m → r ≡ firstOf m (drop b s)
+part-is s e f g h = rw (e, f, g, h)

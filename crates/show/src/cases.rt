@@ -1,5 +1,5 @@
-// Cases of an input of words: the first says how many there are, the next where each begins, and for each the words are those that its
-// program names. A case is known by the byte at which it begins.
+// Cases of an input of words: the first word is how many there are, the next are where each begins, and each case begins with the words
+// that its program names. A case is known by the byte at which it begins.
 use crate::filled::fill_rows;
 use crate::filled::fill_samples;
 use crate::parts::first;
@@ -11,10 +11,16 @@ ghost use Rattle.show.specs.Input.{fieldAt, namedAt, listedAt};
 ghost use Rattle.show.specs.Filled.{rowsWith, samplesBy};
 
 // The word number j of a case.
+fn field_bits(s: &[u8], at: usize, j: usize) -> u32
+    ensures { λ r. ⌜ r ≡ fieldAt (now (s .entry)) at j ⌝ }
+{
+    word(rest(s, at), j)
+}
+
 pub fn field(s: &[u8], at: usize, j: usize) -> usize
     ensures { λ r. ⌜ r ≡ fieldAt (now (s .entry)) at j ⌝ }
 {
-    word(rest(s, at), j) as usize
+    field_bits(s, at, j) as usize
 }
 
 // The bytes that a case names by word j, where they begin, and the next, how many there are.
@@ -30,7 +36,7 @@ pub fn listed<'a>(s: &'a [u8], at: usize, j: u32) -> &'a [u8]
     ensures { λ r. ⌜ now r ≡ listedAt (now (s .entry)) at j ⌝ }
 {
     let i = j as usize;
-    let n = word(rest(s, at), i + 1) as usize;
+    let n = field_bits(s, at, i + 1) as usize;
     first(rest(s, field(s, at, i)), 4 * n)
 }
 
@@ -47,6 +53,8 @@ pub fn rows_listed(s: &[u8], at: usize, j: u32) -> [u16; 2304]
 pub fn fill_by_rule(samples: &mut [i32], s: &[u8], at: usize)
     ensures { λ _. ⌜ now (samples .exit) ≡ samplesBy (fieldAt (now (s .entry)) at 4) (fieldAt (now (s .entry)) at 5) (fieldAt (now (s .entry)) at 6) (now (samples .entry)) ⌝ }
 {
-    let case = rest(s, at);
-    fill_samples(samples, word(case, 4), word(case, 5), word(case, 6));
+    let base = field_bits(s, at, 4);
+    let step = field_bits(s, at, 5);
+    let modulus = field_bits(s, at, 6);
+    fill_samples(samples, base, step, modulus);
 }

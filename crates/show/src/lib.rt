@@ -1,7 +1,7 @@
-// What programs share: the lines that they write, and what those that replay cases take from their input; where an input is too short a
-// number is 0 and a part is empty. What a function works out or leaves in what it is lent its contract says. What is written no contract
-// can say: a function that only writes returns nothing and is lent nothing to change, so that there is nothing else to say, and has none.
-// Each function is proved safe and ending.
+// What programs share: the lines that they write, and what those that replay cases take from their input, where a number that isn't there
+// is 0 and a part that isn't there is empty. A function that works something out or fills what it is lent has a contract that fixes it.
+// What is written no contract can say: a function that only writes returns nothing and is lent nothing to change, so there is nothing to
+// fix, and it has none. Each function is proved safe and ending.
 use libc::STDOUT_FILENO;
 use params::Reading;
 ghost use mathlib.Core.Path.{_≡_};
@@ -93,7 +93,7 @@ pub fn kind(kind: usize) {
     line(b"kind=", kind as u64);
 }
 
-// Whether a reading is refused: its number is not 0. A raw entry is refused too: its samples aren't here.
+// Whether a reading is refused. A raw entry is refused too: its samples aren't here.
 pub fn is_refused(r: Reading) -> bool
     ensures { λ b. ⌜ b ≡ refusedIs r ⌝ }
 {
@@ -168,44 +168,4 @@ pub fn row(kind: usize, numbers: &[u16]) {
         i += 1;
     }
     end();
-}
-
-// Whether each number is abcd.
-fn untouched(rows: &[u16]) -> bool {
-    let mut i = 0;
-    while i < rows.len() {
-        if rows[i] != 0xabcd {
-            return false;
-        }
-        i += 1;
-    }
-    true
-}
-
-// A row that was written.
-fn touched_row(kind: usize, numbers: &[u16]) {
-    if !untouched(numbers) {
-        row(kind, numbers);
-    }
-}
-
-fn touched_rows(rows: &[u16]) {
-    let mut kind = 0;
-    while kind < 17 {
-        let at = kind * 128;
-        let end = at + 128;
-        if end <= rows.len() {
-            touched_row(kind, &rows[at..end]);
-        }
-        kind += 1;
-    }
-}
-
-// Each row that was written, of rows that held abcd before.
-pub fn rows(rows: &[u16]) {
-    if untouched(rows) {
-        text(b"rows=unchanged\n");
-        return;
-    }
-    touched_rows(rows);
 }

@@ -1,6 +1,5 @@
-// What programs write of weights and of an expansion's reply. Which functions have a contract: see the head of `show`.
+// What programs write of weights. Which functions have a contract: see the head of `show`.
 use libc::STDOUT_FILENO;
-use matrix::Expanded;
 ghost use mathlib.Core.Path.{_≡_};
 ghost use lib.Ieee.{binary32, toBits};
 ghost use Rattle.show_weights.specs.Total.{totalOf};
@@ -50,48 +49,9 @@ pub fn item(i: usize, x: f32) {
     weight(x);
 }
 
-// The weights of a part, commas between them.
-pub fn weights(part: &[f32]) {
-    let mut i = 0;
-    while i < part.len() {
-        item(i, part[i]);
-        i += 1;
-    }
-}
-
 // The weight at a place, and nothing where there is none.
 pub fn weight_at(part: &[f32], i: usize) {
     if i < part.len() {
         weight(part[i]);
-    }
-}
-
-fn one(number: u64, kind: usize) {
-    show::decimal(number);
-    show::next(kind as u64);
-}
-
-fn three(number: u64, kind: usize, channel: usize, last: usize) {
-    one(number, kind);
-    show::next(channel as u64);
-    show::next(last as u64);
-}
-
-// The reply of an expansion: document 01's number, and its values.
-pub fn reply(r: Expanded) {
-    match r {
-        Expanded::Done => show::decimal(0),
-        Expanded::Lent => show::decimal(1),
-        Expanded::Row { kind } => one(6, kind),
-        Expanded::Band {
-            kind,
-            channel,
-            band,
-        } => three(7, kind, channel, band),
-        Expanded::Weight {
-            kind,
-            channel,
-            place,
-        } => three(8, kind, channel, place),
     }
 }

@@ -1,4 +1,5 @@
 -- `show::cases::named` meets its contract. Assumes nothing.
+use Rattle.show.proofs.Laws.{part-is}
 use borrow.Author.Needs.{needs}
 use Rattle.show.proofs.cases.named.Statement.{statement}
 use Rattle.show.proofs.cases.named.Tie as tie
@@ -19,7 +20,8 @@ first-requires : tie.Need-first-requires
 first-requires c κs = search needs
 
 returns : tie.Need-returns
-returns c = cc
+returns c =
+    part-is (c .before .before .before .before .before .args .s .now) (c .first .ensures) (c .before .before .rest .ensures) (c .before .before .before .field .ensures) (c .before .field2 .ensures)
 
 pub named-spec : {M : Type 1} → statement M
 named-spec =

@@ -20,14 +20,10 @@ cast-result c =
     record { fits = omega arith }
 
 returns : tie.Need-returns
-returns c =
-    let a = c .before .args in
-    modulo-some (a .rest + a .step) (a .modulus) (search needs)
+returns c = search (modulo-some, needs)
 
 returns-2 : tie.Need-returns-2
-returns-2 c =
-    let a = c .before .args in
-    modulo-none (a .rest + a .step) (a .modulus) (search needs)
+returns-2 c = search (modulo-none, needs)
 
 pub stepped-spec : {M : Type 1} → statement M
 stepped-spec = tie.close (tie.spec add-result rem-result cast-result returns returns-2)
