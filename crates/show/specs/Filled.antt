@@ -25,6 +25,6 @@ modulo x (suc m) = x % suc m
 abbrev pub sampleAt : ℕ → ℕ → ℕ → ℕ → ℤ
 sampleAt base step modulus p = toZ w32 ((base + modulo (p * step) modulus) % 2 ^ 32)
 
--- samples, each by the rule
+-- samples by a rule, each at its place
 abbrev pub samplesBy : ℕ → ℕ → ℕ → List ℤ → List ℤ
 samplesBy base step modulus samples = stored (λ p. p) (sampleAt base step modulus) (length samples) samples

@@ -23,7 +23,7 @@ pub fn field(s: &[u8], at: usize, j: usize) -> usize
     field_bits(s, at, j) as usize
 }
 
-// The bytes that a case names by word j, where they begin, and the next, how many there are.
+// The bytes that a case names by word j, where they begin, and the next, how many there are. A u32 always has a next in a usize.
 pub fn named<'a>(s: &'a [u8], at: usize, j: u32) -> &'a [u8]
     ensures { λ r. ⌜ now r ≡ namedAt (now (s .entry)) at j ⌝ }
 {

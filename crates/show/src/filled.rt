@@ -50,7 +50,7 @@ fn stepped(rest: u32, step: u32, modulus: u32) -> u32
     0
 }
 
-// Sample p is base + p x step mod modulus, by 2^32; with modulus 0 all are the base.
+// Sample p is base + (p x step mod modulus), by 2^32; with modulus 0 all are the base.
 pub fn fill_samples(samples: &mut [i32], base: u32, step: u32, modulus: u32)
     ensures { λ _. ⌜ now (samples .exit) ≡ samplesBy base step modulus (now (samples .entry)) ⌝ }
 {

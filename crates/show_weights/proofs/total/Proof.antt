@@ -1,5 +1,6 @@
 -- `show_weights::total` meets its contract. The loop's invariant: the sums are those of the weights from place i on. Assumes nothing.
-use Prim.Native.Nat.{_-_, _≤_}
+use mathlib.Core.Path.{ap, _∙_}
+use Prim.Native.Nat.{ℕ, _+_, _-_, _%_, _^_, _≤_}
 use native.Mathlib.Omega.{arith}
 use borrow.Author.Needs.{needs}
 use lib.ListN.{length, drop}
@@ -40,7 +41,7 @@ loop-less c = search needs
 loop-again : tie.Need-loop-again Inv-loop μ-loop
 loop-again c =
     let l = c .before .before .before .before .before .loop in
-    (search needs, summed-more (c .before .before .before .before .before .before .before .args .part .now) (l .i) (l .i - 1) (l .running) (l .sum) _ _ (search needs) (omega arith) (l .inv .1) (cc) (c .wrapping-add-u642 .ensures))
+    (search needs, summed-more (c .before .before .before .before .before .before .before .args .part .now) (l .i) (l .i - 1) (l .running) (l .sum) _ _ (search needs) (omega arith) (l .inv .1) (c .before .wrapping-add-u64 .ensures ∙ ap (λ (b : ℕ). (l .running + b) % 2 ^ 64) (c .before .before .bits .ensures)) (c .wrapping-add-u642 .ensures))
 
 returns : tie.Need-returns Inv-loop μ-loop
 returns c = summed-all (c .before .before .before .args .part .now) (c .before .loop .i) _ _ (search needs) (c .before .loop .inv .1)

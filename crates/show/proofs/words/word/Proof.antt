@@ -1,48 +1,28 @@
--- `show::words::word` meets its contract: a word that is there has its last byte within. Assumes nothing.
-use Prim.Native.Nat.{_/_}
+-- `show::words::word` meets its contract. Assumes nothing.
+use mathlib.Core.Path.{_≡_, ap}
+use Prim.Native.Nat.{ℕ, _+_, _*_, _/_}
 use native.Mathlib.Omega.{arith}
 use borrow.Author.Tests.{lt-ltb, le-ltb}
-use lib.ListN.{length}
+use lib.ListN.{length, getD}
 use Rattle.show.specs.Input.{wordAt}
 use borrow.Author.Needs.{needs}
 use Rattle.show.proofs.words.word.Statement.{statement}
 use Rattle.show.proofs.words.word.Tie as tie
 
-mul-at : tie.Need-mul-at
-mul-at c = search needs
+mul-pair : tie.Need-mul-pair
+mul-pair c = search needs
 
-shared-slice-read-wide : tie.Need-shared-slice-read-wide
-shared-slice-read-wide c = search needs
+pair-requires : tie.Need-pair-requires
+pair-requires c κs = search needs
 
-wide-requires : tie.Need-wide-requires
-wide-requires c κs = search needs
+mul-pair-2 : tie.Need-mul-pair-2
+mul-pair-2 c = search needs
 
-add-wide : tie.Need-add-wide
-add-wide c = search needs
+add-pair : tie.Need-add-pair
+add-pair c = search needs
 
-shared-slice-read-wide-2 : tie.Need-shared-slice-read-wide-2
-shared-slice-read-wide-2 c = search needs
-
-wide-requires-2 : tie.Need-wide-requires-2
-wide-requires-2 c κs = search needs
-
-add-wide-2 : tie.Need-add-wide-2
-add-wide-2 c = search needs
-
-shared-slice-read-wide-3 : tie.Need-shared-slice-read-wide-3
-shared-slice-read-wide-3 c = search needs
-
-wide-requires-3 : tie.Need-wide-requires-3
-wide-requires-3 c κs = search needs
-
-add-wide-3 : tie.Need-add-wide-3
-add-wide-3 c = search needs
-
-shared-slice-read-wide-4 : tie.Need-shared-slice-read-wide-4
-shared-slice-read-wide-4 c = search needs
-
-wide-requires-4 : tie.Need-wide-requires-4
-wide-requires-4 c κs = search needs
+pair-requires-2 : tie.Need-pair-requires-2
+pair-requires-2 c κs = search needs
 
 mul-result : tie.Need-mul-result
 mul-result c = search needs
@@ -50,22 +30,12 @@ mul-result c = search needs
 add-result : tie.Need-add-result
 add-result c = search needs
 
-mul-result-2 : tie.Need-mul-result-2
-mul-result-2 c = search needs
-
-add-result-2 : tie.Need-add-result-2
-add-result-2 c = search needs
-
-mul-result-3 : tie.Need-mul-result-3
-mul-result-3 c = search needs
-
-add-result-3 : tie.Need-add-result-3
-add-result-3 c = search needs
-
 returns : tie.Need-returns
 unfolding wordAt
 returns c =
-    let a = c .before .before .before .before .before .before .before .before .before .before .args in
+    let a = c .before .before .before .before .args in
+    let i : 4 * a .j + 2 + 1 ≡ 4 * a .j + 3 = omega arith in
+    let last : getD (a .s .now) (4 * a .j + 2 + 1) 0 ≡ getD (a .s .now) (4 * a .j + 3) 0 = ap (λ (p : ℕ). getD (a .s .now) p 0) i in
     rw (wordAt, lt-ltb (a .j) (length (a .s .now) / 4) (search needs)) (omega arith)
 
 returns-2 : tie.Need-returns-2
@@ -78,23 +48,12 @@ pub word-spec : {M : Type 1} → statement M
 word-spec =
     tie.close
     (tie.spec
-    mul-at
-    shared-slice-read-wide
-    wide-requires
-    add-wide
-    shared-slice-read-wide-2
-    wide-requires-2
-    add-wide-2
-    shared-slice-read-wide-3
-    wide-requires-3
-    add-wide-3
-    shared-slice-read-wide-4
-    wide-requires-4
+    mul-pair
+    pair-requires
+    mul-pair-2
+    add-pair
+    pair-requires-2
     mul-result
     add-result
-    mul-result-2
-    add-result-2
-    mul-result-3
-    add-result-3
     returns
     returns-2)
