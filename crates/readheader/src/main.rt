@@ -21,7 +21,7 @@ fn main() {
     let r = params::read_header(&header[..n], 0, 0, &mut rows);
     show::text(b"reply=");
     show::reading(r);
-    show::text(b"\n");
+    show::end();
     if has_rows(r) {
         let mut kind = 0;
         while kind < 17 {

@@ -1,21 +1,21 @@
-// Replays cases of the calls on rows from standard input and writes what each gives: reading a header (`parse_at`), `write_record`,
-// `read_record` and `quantlist`. All numbers of the input are words: how many cases there are, where each begins, and for a case: where
-// its name is and its length, the call, how many samples, their rule (base, step, modulus), how many numbers of rows, where those that
-// are not 0 are listed and in how many words, where its text or header is and its length, the buffer's length, the bit and the kind.
+// Replays cases of the calls on rows from standard input and writes what each gives: `read_header`, `write_record`, `read_record` and
+// `quantlist`. All numbers of the input are words: how many cases there are, where each begins, and for a case: where its name is and its
+// length, the call, how many samples, their rule (base, step, modulus), how many numbers of rows, where those that are not 0 are listed
+// and in how many words, where its text or header is and its length, the buffer's length, the bit and the kind.
 use libc::STDIN_FILENO;
 use record::Taken;
 use record::Written;
 use show::field;
 
+mod rows;
 mod samples;
 mod text;
 
 // A reply of one number and one value.
 fn reply(number: u64, value: usize) {
     show::decimal(number);
-    show::text(b" ");
-    show::decimal(value as u64);
-    show::text(b"\n");
+    show::next(value as u64);
+    show::end();
 }
 
 // A record, or of a long one the total.
@@ -98,7 +98,7 @@ fn read(source: &[u8], rows: &mut [u16], part: &mut [i32]) {
     show::fill_samples(part, 77, 0, 0);
     let r = record::read_record(source, rows, part);
     show_taken(r);
-    show::rows(rows);
+    rows::show_rows(rows);
     show_samples(part);
 }
 
@@ -107,7 +107,7 @@ fn write_rows(s: &[u8], at: usize, part: &[i32], buffer: &mut [u8]) {
     write(
         show::first_u16(&rows, field(s, at, 7)),
         part,
-        show::first_mut_u8(buffer, field(s, at, 12)),
+        text::first(buffer, field(s, at, 12)),
     );
 }
 
@@ -120,8 +120,8 @@ fn read_case(s: &[u8], at: usize, source: &[u8], part: &mut [i32]) {
     let mut rows = [0xabcdu16; 2304];
     read(
         source,
-        show::first_mut_u16(&mut rows, field(s, at, 7)),
-        show::first_mut_i32(part, field(s, at, 3)),
+        rows::first(&mut rows, field(s, at, 7)),
+        samples::first(part, field(s, at, 3)),
     );
 }
 
@@ -132,11 +132,11 @@ fn back_case(s: &[u8], at: usize, part: &mut [i32], buffer: &[u8]) {
 
 // Reads a header into rows of abcd.
 fn read_header(header: &[u8], bit: usize, kind: usize, rows: &mut [u16]) {
-    let r = params::parse_at(header, bit as u64, kind, rows);
+    let r = params::read_header(header, bit as u64, kind, rows);
     show::text(b"reply=");
     show::reading(r);
     show::end();
-    show::rows(rows);
+    rows::show_rows(rows);
 }
 
 fn header_case(s: &[u8], at: usize) {
@@ -145,7 +145,7 @@ fn header_case(s: &[u8], at: usize) {
         show::named(s, at, 10),
         field(s, at, 13),
         field(s, at, 14),
-        show::first_mut_u16(&mut rows, field(s, at, 7)),
+        rows::first(&mut rows, field(s, at, 7)),
     );
 }
 
@@ -176,20 +176,20 @@ fn call(s: &[u8], at: usize, part: &mut [i32], buffer: &mut [u8]) {
     header_call(s, at);
 }
 
-// A case by its number: its name, and what it gives.
+// A case by its number, from 1 on: its name, and what it gives.
 fn run(s: &[u8], i: usize, part: &mut [i32], buffer: &mut [u8]) {
-    let at = show::start(s, i);
+    let at = show::word(s, i) as usize;
     show::text(show::named(s, at, 0));
     show::end();
     call(s, at, part, buffer);
 }
 
 fn run_all(s: &[u8], part: &mut [i32], buffer: &mut [u8]) {
-    let n = show::size(s, 0);
+    let n = show::word(s, 0) as usize;
     let mut i = 0;
     while i < n {
-        run(s, i, part, buffer);
         i += 1;
+        run(s, i, part, buffer);
     }
 }
 

@@ -1,4 +1,12 @@
-// What a reading left of samples that all held 77 before, and what they add up to.
+// The samples that a case lends, what a reading left of those that all held 77 before, and what they add up to.
+
+// The first n samples, or none where there are fewer.
+pub(crate) fn first<'a>(samples: &'a mut [i32], n: usize) -> &'a mut [i32] {
+    if samples.len() < n {
+        return &mut samples[..0];
+    }
+    &mut samples[0..n]
+}
 
 // Whether each sample is 77.
 pub(crate) fn untouched(samples: &[i32]) -> bool {

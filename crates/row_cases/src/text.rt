@@ -1,5 +1,13 @@
 // The buffer that records are written in.
 
+// The first n bytes, or none where there are fewer.
+pub(crate) fn first<'a>(s: &'a mut [u8], n: usize) -> &'a mut [u8] {
+    if s.len() < n {
+        return &mut s[..0];
+    }
+    &mut s[0..n]
+}
+
 pub(crate) fn clear(s: &mut [u8]) {
     let mut i = 0;
     while i < s.len() {

@@ -1,4 +1,6 @@
 // The calls on what a case names. A case is known by the byte at which it begins.
+use crate::lent::fill;
+use crate::lent::first_weights;
 use crate::shown::show_arenas;
 use crate::shown::show_jpeg;
 use crate::shown::show_part;
@@ -6,20 +8,6 @@ use crate::shown::show_reply;
 use dequant::Order;
 use matrix::Expanded;
 use show::field;
-
-fn row_part<'a>(rows: &'a [u16], s: &[u8], at: usize) -> &'a [u16] {
-    show::first_u16(rows, field(s, at, 14))
-}
-
-// The samples by their rule, then those that stand apart from it.
-fn fill(samples: &mut [i32], s: &[u8], at: usize) {
-    show::fill_by_rule(samples, s, at);
-    show::put_samples(show::listed(s, at, 17), samples);
-}
-
-fn sample_part<'a>(samples: &'a [i32], s: &[u8], at: usize) -> &'a [i32] {
-    show::first_i32(samples, field(s, at, 3))
-}
 
 // The set, or its one kind.
 fn expand(
@@ -30,7 +18,7 @@ fn expand(
     transposed: &mut [f32],
 ) -> Expanded {
     let rows = show::rows_listed(s, at, 12);
-    let part = row_part(&rows, s, at);
+    let part = show::first_u16(&rows, field(s, at, 14));
     if field(s, at, 2) == 0 {
         return dequant::expand(part, samples, straight, transposed);
     }
@@ -97,14 +85,18 @@ fn with_arenas(s: &[u8], at: usize, samples: &[i32]) {
         s,
         at,
         samples,
-        show::first_mut_f32(&mut straight, field(s, at, 15)),
-        show::first_mut_f32(&mut transposed, field(s, at, 16)),
+        first_weights(&mut straight, field(s, at, 15)),
+        first_weights(&mut transposed, field(s, at, 16)),
     );
 }
 
 fn jpeg_case(s: &[u8], at: usize, samples: &[i32]) {
     let rows = show::rows_listed(s, at, 12);
-    show_jpeg(row_part(&rows, s, at), samples, field(s, at, 8));
+    show_jpeg(
+        show::first_u16(&rows, field(s, at, 14)),
+        samples,
+        field(s, at, 8),
+    );
 }
 
 fn lent_call(s: &[u8], at: usize, samples: &[i32]) {
@@ -117,7 +109,7 @@ fn lent_call(s: &[u8], at: usize, samples: &[i32]) {
 
 fn filled_call(s: &[u8], at: usize, samples: &mut [i32]) {
     fill(samples, s, at);
-    lent_call(s, at, sample_part(samples, s, at));
+    lent_call(s, at, show::first_i32(samples, field(s, at, 3)));
 }
 
 // The call that a case names. The samples are lent once: a need after a second loan would count them.

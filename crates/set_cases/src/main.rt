@@ -6,22 +6,23 @@
 use libc::STDIN_FILENO;
 
 mod calls;
+mod lent;
 mod shown;
 
-// A case by its number: its name, and what it gives.
+// A case by its number, from 1 on: its name, and what it gives.
 fn run(s: &[u8], i: usize) {
-    let at = show::start(s, i);
+    let at = show::word(s, i) as usize;
     show::text(show::named(s, at, 0));
     show::end();
     calls::call(s, at);
 }
 
 fn run_all(s: &[u8]) {
-    let n = show::size(s, 0);
+    let n = show::word(s, 0) as usize;
     let mut i = 0;
     while i < n {
-        run(s, i);
         i += 1;
+        run(s, i);
     }
 }
 

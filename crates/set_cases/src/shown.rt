@@ -2,9 +2,39 @@
 use dequant::Jpeg;
 use matrix::Expanded;
 
+fn one(number: u64, kind: usize) {
+    show::decimal(number);
+    show::next(kind as u64);
+}
+
+fn three(number: u64, kind: usize, channel: usize, last: usize) {
+    one(number, kind);
+    show::next(channel as u64);
+    show::next(last as u64);
+}
+
+// The reply of an expansion: document 01's number, and its values.
+fn reply(r: Expanded) {
+    match r {
+        Expanded::Done => show::decimal(0),
+        Expanded::Lent => show::decimal(1),
+        Expanded::Row { kind } => one(6, kind),
+        Expanded::Band {
+            kind,
+            channel,
+            band,
+        } => three(7, kind, channel, band),
+        Expanded::Weight {
+            kind,
+            channel,
+            place,
+        } => three(8, kind, channel, place),
+    }
+}
+
 pub(crate) fn show_reply(r: Expanded) {
     show::text(b"reply=");
-    show_weights::reply(r);
+    reply(r);
     show::end();
 }
 
@@ -31,7 +61,7 @@ fn show_places(part: &[f32], places: &[u8]) {
     let n = places.len() / 4;
     let mut i = 0;
     while i < n {
-        show_place(part, show::size(places, i));
+        show_place(part, show::word(places, i) as usize);
         i += 1;
     }
 }

@@ -1,9 +1,13 @@
-// What programs share: the lines that they write, and what those that replay cases take from their input. What is written no
-// contract can say; where an input is too short a number is 0 and a part is empty. Each function is proved safe and ending.
+// What programs share: the lines that they write, and what those that replay cases take from their input, where a number that isn't there
+// is 0 and a part that isn't there is empty. A function that works something out or fills what it is lent has a contract that fixes it.
+// What is written no contract can say: a function that only writes returns nothing and is lent nothing to change, so there is nothing to
+// fix, and it has none. Each function is proved safe and ending.
 use libc::STDOUT_FILENO;
 use params::Reading;
+ghost use mathlib.Core.Path.{_≡_};
 ghost use Prim.Native.Nat.{_≤_, _<_};
 ghost use lib.ListN.{length};
+ghost use Rattle.show.specs.Refused.{refusedIs};
 
 mod cases;
 mod filled;
@@ -15,61 +19,56 @@ pub use cases::fill_by_rule;
 pub use cases::listed;
 pub use cases::named;
 pub use cases::rows_listed;
-pub use cases::start;
 pub use filled::fill_samples;
-pub use filled::put_samples;
+pub use filled::signed;
 pub use parts::first;
 pub use parts::first_i32;
-pub use parts::first_mut_f32;
-pub use parts::first_mut_i32;
-pub use parts::first_mut_u8;
-pub use parts::first_mut_u16;
 pub use parts::first_u16;
 pub use parts::rest;
-pub use words::size;
+pub use words::word;
 
-pub fn text(bytes: &[u8]) -> bool {
-    io::write_all(STDOUT_FILENO, bytes)
+pub fn text(bytes: &[u8]) {
+    io::write_all(STDOUT_FILENO, bytes);
 }
 
-pub fn decimal(n: u64) -> bool {
-    io::print_decimal(STDOUT_FILENO, n)
+pub fn decimal(n: u64) {
+    io::print_decimal(STDOUT_FILENO, n);
 }
 
-pub fn blank() -> bool {
-    text(b" ")
+pub fn blank() {
+    text(b" ");
 }
 
-pub fn comma() -> bool {
-    text(b",")
+pub fn comma() {
+    text(b",");
 }
 
-pub fn end() -> bool {
-    text(b"\n")
+pub fn end() {
+    text(b"\n");
 }
 
 // A number behind a blank.
-pub fn next(n: u64) -> bool {
+pub fn next(n: u64) {
     blank();
-    decimal(n)
+    decimal(n);
 }
 
 // A name, a number and a line end.
-pub fn line(name: &[u8], n: u64) -> bool {
+pub fn line(name: &[u8], n: u64) {
     text(name);
     decimal(n);
-    end()
+    end();
 }
 
 // The numbers of a reply of two values, as document 01's table has them.
-fn reply(number: u64, kind: usize, bit: u64) -> bool {
+fn reply(number: u64, kind: usize, bit: u64) {
     decimal(number);
     next(kind as u64);
-    next(bit)
+    next(bit);
 }
 
 // The reply of a reading: document 01's number, and its values.
-pub fn reading(r: Reading) -> bool {
+pub fn reading(r: Reading) {
     match r {
         Reading::Done { next } => done(next),
         Reading::Lent => decimal(1),
@@ -80,25 +79,39 @@ pub fn reading(r: Reading) -> bool {
     }
 }
 
-fn done(bit: u64) -> bool {
+fn done(bit: u64) {
     decimal(0);
-    next(bit)
+    next(bit);
 }
 
 // The line of a refusal's number.
-pub fn refusal(number: u64) -> bool {
-    line(b"refused=", number)
+pub fn refusal(number: u64) {
+    line(b"refused=", number);
 }
 
-pub fn kind(kind: usize) -> bool {
-    line(b"kind=", kind as u64)
+pub fn kind(kind: usize) {
+    line(b"kind=", kind as u64);
 }
 
-// A refused reading, a line for each number; whether there was one. A raw entry is refused too: its samples aren't here.
-pub fn refused(r: Reading) -> bool {
+// Whether a reading is refused. A raw entry is refused too: its samples aren't here.
+pub fn is_refused(r: Reading) -> bool
+    ensures { λ b. ⌜ b ≡ refusedIs r ⌝ }
+{
     match r {
         Reading::Done { next: _ } => false,
-        Reading::Lent => refused_lent(),
+        Reading::Lent => true,
+        Reading::Short { kind: _, bit: _ } => true,
+        Reading::Mode { kind: _, bit: _ } => true,
+        Reading::Float { kind: _, bit: _ } => true,
+        Reading::Raw { kind: _, next: _ } => true,
+    }
+}
+
+// A refused reading, a line for each number, and nothing of one that is done.
+pub fn refused(r: Reading) {
+    match r {
+        Reading::Done { next: _ } => {}
+        Reading::Lent => refusal(1),
         Reading::Short { kind, bit } => refused_at(2, kind, bit),
         Reading::Mode { kind, bit } => refused_at(3, kind, bit),
         Reading::Float { kind, bit } => refused_at(4, kind, bit),
@@ -106,16 +119,10 @@ pub fn refused(r: Reading) -> bool {
     }
 }
 
-fn refused_lent() -> bool {
-    refusal(1);
-    true
-}
-
-fn refused_at(number: u64, no: usize, bit: u64) -> bool {
+fn refused_at(number: u64, no: usize, bit: u64) {
     refusal(number);
     kind(no);
     line(b"bit=", bit);
-    true
 }
 
 fn wide(x: u16) -> u64 {
@@ -152,7 +159,7 @@ fn item(i: usize, x: u16) {
 }
 
 // The numbers of a row in hexadecimal, commas between them, without the zeros at its end.
-pub fn row(kind: usize, numbers: &[u16]) -> bool {
+pub fn row(kind: usize, numbers: &[u16]) {
     row_name(kind);
     let n = used(numbers);
     let mut i = 0;
@@ -160,45 +167,5 @@ pub fn row(kind: usize, numbers: &[u16]) -> bool {
         item(i, numbers[i]);
         i += 1;
     }
-    end()
-}
-
-// Whether each number is abcd.
-fn untouched(rows: &[u16]) -> bool {
-    let mut i = 0;
-    while i < rows.len() {
-        if rows[i] != 0xabcd {
-            return false;
-        }
-        i += 1;
-    }
-    true
-}
-
-// A row that was written.
-fn touched_row(kind: usize, numbers: &[u16]) {
-    if !untouched(numbers) {
-        row(kind, numbers);
-    }
-}
-
-fn touched_rows(rows: &[u16]) {
-    let mut kind = 0;
-    while kind < 17 {
-        let at = kind * 128;
-        let end = at + 128;
-        if end <= rows.len() {
-            touched_row(kind, &rows[at..end]);
-        }
-        kind += 1;
-    }
-}
-
-// Each row that was written, of rows that held abcd before.
-pub fn rows(rows: &[u16]) {
-    if untouched(rows) {
-        text(b"rows=unchanged\n");
-        return;
-    }
-    touched_rows(rows);
+    end();
 }

@@ -1,4 +1,4 @@
-// What `quantlist` writes of a header. What is written no contract can say: each function is proved safe and ending.
+// What `quantlist` writes of a header. Why it has no contract: see the head of `show`.
 use record::Written;
 
 // The record of rows without raw kinds. The longest has 7,079 bytes: six kinds with 123 numbers, eleven with 48.
@@ -18,7 +18,9 @@ fn show_rows(rows: &[u16]) {
 pub fn quantlist(header: &[u8]) {
     let mut rows = [0u16; 2176];
     let r = params::read_header(header, 0, 0, &mut rows);
-    if !show::refused(r) {
+    if show::is_refused(r) {
+        show::refused(r);
+    } else {
         show_rows(&rows);
     }
 }

@@ -1,4 +1,4 @@
-// What programs write of a header's set. What is written no contract can say: each function is proved safe and ending.
+// What programs write of a header's set. Why it has no contract: see the head of `show`.
 use matrix::Expanded;
 
 mod list;
@@ -6,24 +6,24 @@ mod list;
 pub use list::keys;
 pub use list::summaries;
 
-fn refused_kind(number: u64, kind: usize) -> bool {
+fn refused_kind(number: u64, kind: usize) {
     show::refusal(number);
-    show::kind(kind)
+    show::kind(kind);
 }
 
-fn refused_channel(number: u64, kind: usize, channel: usize) -> bool {
+fn refused_channel(number: u64, kind: usize, channel: usize) {
     refused_kind(number, kind);
-    show::line(b"channel=", channel as u64)
+    show::line(b"channel=", channel as u64);
 }
 
-fn refused_band(kind: usize, channel: usize, band: usize) -> bool {
+fn refused_band(kind: usize, channel: usize, band: usize) {
     refused_channel(7, kind, channel);
-    show::line(b"band=", band as u64)
+    show::line(b"band=", band as u64);
 }
 
-fn refused_weight(kind: usize, channel: usize, place: usize) -> bool {
+fn refused_weight(kind: usize, channel: usize, place: usize) {
     refused_channel(8, kind, channel);
-    show::line(b"place=", place as u64)
+    show::line(b"place=", place as u64);
 }
 
 // Whether an expansion was done. A refusal is written, a line for each number.
@@ -45,13 +45,7 @@ fn is_done(r: Expanded) -> bool {
             place,
         } => refused_weight(kind, channel, place),
     }
-    ;
     false
-}
-
-// Whether a header is refused; what refuses it is written.
-fn refused_header(header: &[u8], rows: &mut [u16]) -> bool {
-    show::refused(params::read_header(header, 0, 0, rows))
 }
 
 fn expand_rows(rows: &[u16], straight: &mut [f32], transposed: &mut [f32]) -> bool {
@@ -61,7 +55,9 @@ fn expand_rows(rows: &[u16], straight: &mut [f32], transposed: &mut [f32]) -> bo
 // Expands the set of a header without raw kinds; whether that was done. What refuses it is written.
 pub(crate) fn expand_header(header: &[u8], straight: &mut [f32], transposed: &mut [f32]) -> bool {
     let mut rows = [0u16; 2176];
-    if refused_header(header, &mut rows) {
+    let r = params::read_header(header, 0, 0, &mut rows);
+    if show::is_refused(r) {
+        show::refused(r);
         return false;
     }
     expand_rows(&rows, straight, transposed)

@@ -1,10 +1,19 @@
 // What programs list of a header's set: for each kind and channel a line on what lookup shows with no order named.
 use crate::expand_header;
 use dequant::Order;
+use show_weights::item;
 use show_weights::total;
 use show_weights::weight_at;
-use show_weights::weights;
 use transform::Kind;
+
+// The weights of a part, commas between them.
+fn weights(part: &[f32]) {
+    let mut i = 0;
+    while i < part.len() {
+        item(i, part[i]);
+        i += 1;
+    }
+}
 
 // The first row of a part.
 fn key(part: &[f32], width: usize) {

@@ -1,14 +1,19 @@
-// What programs write of weights and of an expansion's reply. What is written no contract can say: each function is proved safe and
-// ending.
+// What programs write of weights. Which functions have a contract: see the head of `show`.
 use libc::STDOUT_FILENO;
-use matrix::Expanded;
+ghost use mathlib.Core.Path.{_≡_};
+ghost use lib.Ieee.{binary32, toBits};
+ghost use Rattle.show_weights.specs.Total.{totalOf};
 
-fn wide(x: u32) -> u64 {
+fn wide(x: u32) -> u64
+    ensures { λ r. ⌜ r ≡ x ⌝ }
+{
     x as u64
 }
 
-// A weight's bits; a NaN counts as 7fc00000.
-pub fn bits(x: f32) -> u64 {
+// A weight's bits; those of a NaN are 7fc00000, as the logic's `toBits` has them.
+pub fn bits(x: f32) -> u64
+    ensures { λ r. ⌜ r ≡ toBits binary32 x ⌝ }
+{
     if x != x {
         return 0x7fc00000;
     }
@@ -17,7 +22,9 @@ pub fn bits(x: f32) -> u64 {
 
 // The 64-bit total of bits x (place + 1), wrapping round: from the last place on, each weight's bits are in the running
 // sum once for each place up to its own.
-pub fn total(part: &[f32]) -> u64 {
+pub fn total(part: &[f32]) -> u64
+    ensures { λ r. ⌜ r ≡ totalOf (now (part .entry)) ⌝ }
+{
     let mut running: u64 = 0;
     let mut sum: u64 = 0;
     let mut i = part.len();
@@ -30,8 +37,8 @@ pub fn total(part: &[f32]) -> u64 {
 }
 
 // A weight's bits, as eight hexadecimal digits.
-fn weight(x: f32) -> bool {
-    io::print_hex(STDOUT_FILENO, bits(x), 8)
+fn weight(x: f32) {
+    io::print_hex(STDOUT_FILENO, bits(x), 8);
 }
 
 // A weight, a comma before each but the first.
@@ -42,48 +49,9 @@ pub fn item(i: usize, x: f32) {
     weight(x);
 }
 
-// The weights of a part, commas between them.
-pub fn weights(part: &[f32]) {
-    let mut i = 0;
-    while i < part.len() {
-        item(i, part[i]);
-        i += 1;
-    }
-}
-
 // The weight at a place, and nothing where there is none.
 pub fn weight_at(part: &[f32], i: usize) {
     if i < part.len() {
         weight(part[i]);
-    }
-}
-
-fn one(number: u64, kind: usize) -> bool {
-    show::decimal(number);
-    show::next(kind as u64)
-}
-
-fn three(number: u64, kind: usize, channel: usize, last: usize) -> bool {
-    one(number, kind);
-    show::next(channel as u64);
-    show::next(last as u64)
-}
-
-// The reply of an expansion: document 01's number, and its values.
-pub fn reply(r: Expanded) -> bool {
-    match r {
-        Expanded::Done => show::decimal(0),
-        Expanded::Lent => show::decimal(1),
-        Expanded::Row { kind } => one(6, kind),
-        Expanded::Band {
-            kind,
-            channel,
-            band,
-        } => three(7, kind, channel, band),
-        Expanded::Weight {
-            kind,
-            channel,
-            place,
-        } => three(8, kind, channel, place),
     }
 }

@@ -39,11 +39,8 @@ text-requires c κs = search needs
 reading-requires : tie.Need-reading-requires Inv-loop μ-loop
 reading-requires c κs = search needs
 
-slice-aggregate-text-2 : tie.Need-slice-aggregate-text-2 Inv-loop μ-loop
-slice-aggregate-text-2 c = search needs
-
-text-requires-2 : tie.Need-text-requires-2 Inv-loop μ-loop
-text-requires-2 c κs = search needs
+end-requires : tie.Need-end-requires Inv-loop μ-loop
+end-requires c κs = search needs
 
 has-rows-requires : tie.Need-has-rows-requires Inv-loop μ-loop
 has-rows-requires c κs = search needs
@@ -102,8 +99,7 @@ main-spec =
     slice-aggregate-text
     text-requires
     reading-requires
-    slice-aggregate-text-2
-    text-requires-2
+    end-requires
     has-rows-requires
     loop-holds
     mul-at

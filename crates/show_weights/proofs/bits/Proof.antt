@@ -1,11 +1,16 @@
--- `show_weights::bits` is safe: it asks no bits of a NaN. Assumes nothing.
+-- `show_weights::bits` meets its contract: only a NaN differs from itself. Assumes nothing.
 use mathlib.Core.Path.{_≡_}
 use mathlib.Core.Bool.{false, not, true≢false}
 use borrow.Author.Needs.{needs}
 use lib.Dec.{T}
-use lib.Ieee.{Float, nan, inf, fin, ne, isNan}
+use lib.Ieee.{Float, nan, inf, fin, ne, isNan, binary32, toBits}
+use lib.Ieee.Compare.{differs-from-itself}
 use Rattle.show_weights.proofs.bits.Statement.{statement}
 use Rattle.show_weights.proofs.bits.Tie as tie
+
+nan-bits : {x : Float} → x ≡ nan → 2143289344 ≡ toBits binary32 x
+unfolding toBits
+nan-bits e = rw e
 
 number : (x : Float) → ne x x ≡ false → T (not (isNan x))
 unfolding ne isNan
@@ -14,7 +19,7 @@ number (inf s) e = tt
 number (fin s m k) e = tt
 
 returns : tie.Need-returns
-returns c = search needs
+returns c = nan-bits (differs-from-itself (c .before .args .x) (search needs))
 
 float-to-bits-wide : tie.Need-float-to-bits-wide
 float-to-bits-wide c = number (c .before .args .x) (c .if1 .left)

@@ -13,8 +13,11 @@ abbrev μ-loop : tie.MeasureT-loop
 loop-holds : tie.Need-loop-holds Inv-loop μ-loop
 loop-holds c = search needs
 
-size-requires : tie.Need-size-requires Inv-loop μ-loop
-size-requires c κs = search needs
+word-requires : tie.Need-word-requires Inv-loop μ-loop
+word-requires c κs = search needs
+
+cast-show-place : tie.Need-cast-show-place Inv-loop μ-loop
+cast-show-place c = search needs
 
 show-place-requires : tie.Need-show-place-requires Inv-loop μ-loop
 show-place-requires c κs = search needs
@@ -38,7 +41,8 @@ show-places-spec =
     Inv-loop
     μ-loop
     loop-holds
-    size-requires
+    word-requires
+    cast-show-place
     show-place-requires
     add-i
     loop-less

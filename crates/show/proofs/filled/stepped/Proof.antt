@@ -1,7 +1,8 @@
--- `show::filled::stepped` is safe: a rest is below the modulus. Assumes nothing.
+-- `show::filled::stepped` meets its contract: a rest is below the modulus. Assumes nothing.
 use Prim.Native.Nat.{_+_}
 use native.Mathlib.Nat.{mod-lt}
 use native.Mathlib.Omega.{arith}
+use Rattle.show.proofs.Laws.{modulo-some, modulo-none}
 use borrow.Author.Needs.{needs}
 use Rattle.show.proofs.filled.stepped.Statement.{statement}
 use Rattle.show.proofs.filled.stepped.Tie as tie
@@ -19,10 +20,10 @@ cast-result c =
     record { fits = omega arith }
 
 returns : tie.Need-returns
-returns c = search needs
+returns c = search (modulo-some, needs)
 
 returns-2 : tie.Need-returns-2
-returns-2 c = search needs
+returns-2 c = search (modulo-none, needs)
 
 pub stepped-spec : {M : Type 1} → statement M
 stepped-spec = tie.close (tie.spec add-result rem-result cast-result returns returns-2)

@@ -1,8 +1,8 @@
--- `show::touched_rows` is safe and ends. Assumes nothing.
+-- `row_cases::rows::touched_rows` is safe and ends. Assumes nothing.
 use Prim.Native.Nat.{_≤_, _-_}
 use borrow.Author.Needs.{needs}
-use Rattle.show.proofs.touched_rows.Statement.{statement}
-use Rattle.show.proofs.touched_rows.Tie as tie
+use Rattle.row_cases.proofs.rows.touched_rows.Statement.{statement}
+use Rattle.row_cases.proofs.rows.touched_rows.Tie as tie
 
 abbrev Inv-loop : tie.InvT-loop
 Inv-loop rows kind₀ kind = kind ≤ 17

@@ -1,10 +1,10 @@
--- `show::filled::put_samples` is safe and ends. Assumes nothing.
+-- `set_cases::lent::put_samples` is safe and ends. Assumes nothing.
 use Prim.Native.Nat.{_-_}
 use borrow.Author.Needs.{needs}
 use lib.ListN.{length}
 use mathlib.Core.Path.{_≡_}
-use Rattle.show.proofs.filled.put_samples.Statement.{statement}
-use Rattle.show.proofs.filled.put_samples.Tie as tie
+use Rattle.set_cases.proofs.lent.put_samples.Statement.{statement}
+use Rattle.set_cases.proofs.lent.put_samples.Tie as tie
 
 abbrev Inv-loop : tie.InvT-loop
 Inv-loop list samples₀ n j₀ samples j = length samples ≡ length samples₀
@@ -15,14 +15,17 @@ abbrev μ-loop : tie.MeasureT-loop
 loop-holds : tie.Need-loop-holds Inv-loop μ-loop
 loop-holds c = search needs
 
-size-requires : tie.Need-size-requires Inv-loop μ-loop
-size-requires c κs = search needs
+word-requires : tie.Need-word-requires Inv-loop μ-loop
+word-requires c κs = search needs
+
+cast-put-sample : tie.Need-cast-put-sample Inv-loop μ-loop
+cast-put-sample c = search needs
 
 add-word : tie.Need-add-word Inv-loop μ-loop
 add-word c = search needs
 
-word-requires : tie.Need-word-requires Inv-loop μ-loop
-word-requires c κs = search needs
+word-requires-2 : tie.Need-word-requires-2 Inv-loop μ-loop
+word-requires-2 c κs = search needs
 
 signed-requires : tie.Need-signed-requires Inv-loop μ-loop
 signed-requires c κs = search needs
@@ -52,9 +55,10 @@ put-samples-spec =
     Inv-loop
     μ-loop
     loop-holds
-    size-requires
-    add-word
     word-requires
+    cast-put-sample
+    add-word
+    word-requires-2
     signed-requires
     put-sample-requires
     add-j

@@ -1,9 +1,9 @@
--- `show::untouched` is safe and ends. Assumes nothing.
+-- `row_cases::rows::untouched` is safe and ends. Assumes nothing.
 use Prim.Native.Nat.{_≤_, _-_}
 use borrow.Author.Needs.{needs}
 use lib.ListN.{length}
-use Rattle.show.proofs.untouched.Statement.{statement}
-use Rattle.show.proofs.untouched.Tie as tie
+use Rattle.row_cases.proofs.rows.untouched.Statement.{statement}
+use Rattle.row_cases.proofs.rows.untouched.Tie as tie
 
 abbrev Inv-loop : tie.InvT-loop
 Inv-loop rows i₀ i = i ≤ length rows

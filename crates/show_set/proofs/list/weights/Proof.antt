@@ -1,9 +1,9 @@
--- `show_weights::weights` is safe and ends. Assumes nothing.
+-- `show_set::list::weights` is safe and ends. Assumes nothing.
 use Prim.Native.Nat.{_≤_, _-_}
 use borrow.Author.Needs.{needs}
 use lib.ListN.{length}
-use Rattle.show_weights.proofs.weights.Statement.{statement}
-use Rattle.show_weights.proofs.weights.Tie as tie
+use Rattle.show_set.proofs.list.weights.Statement.{statement}
+use Rattle.show_set.proofs.list.weights.Tie as tie
 
 abbrev Inv-loop : tie.InvT-loop
 Inv-loop part i₀ i = i ≤ length part

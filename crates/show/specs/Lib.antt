@@ -1,0 +1,3 @@
+pub mod Input
+pub mod Filled
+pub mod Refused
