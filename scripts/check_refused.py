@@ -3,12 +3,14 @@
 
 An edit holds one wrong program for each of several functions, told by lines `# fn CRATE::PATH: what is wrong`. The
 toolchain says only that the whole was refused; here each function has to be refused by itself: at a fact of its own
-proof, not because one that it calls was refused, and not because its shape changed. And each public function that a
-crate shows has to be named by two edits.
+proof, not because one that it calls was refused, and not because its shape changed. And each public function that has a
+contract has to be named by two edits.
 """
 import pathlib
 import re
 import sys
+
+from check_coincide import functions
 
 ROOT = pathlib.Path(__file__).resolve().parent.parent
 FN = re.compile(r"# fn (\S+): (.+)")
@@ -37,23 +39,9 @@ def fault(log, path):
     return None if own else f"no error of its own ({verdict[:80]})"
 
 
-def public(crate):
-    """The public functions of a crate by their full names: what src/lib.rt shows, and what it exports to C."""
-    names = []
-    for file in sorted((crate / "src").glob("*.rt")):
-        text = file.read_text()
-        module = [] if file.stem == "lib" else [file.stem]
-        owner, shown = None, (crate / "src/lib.rt").read_text()
-        for line in text.splitlines():
-            if m := re.match(r"impl(?:<[^>]*>)? (\w+)", line):
-                owner = m.group(1)
-            elif line.startswith("}"):
-                owner = None
-            if m := re.match(r"\s*pub (extern \"C\" )?fn (\w+)", line):
-                path = [crate.name, *module, *([owner] if owner else []), m.group(2)]
-                if not module or m.group(1) or re.search(rf"pub use {file.stem}::{owner or m.group(2)}\b", shown):
-                    names.append("::".join(path))
-    return names
+def public():
+    """The public functions by their full names."""
+    return ["::".join(filter(None, (crate, module, owner, name))) for crate, module, owner, name, _, _ in functions()]
 
 
 def main():
@@ -71,8 +59,7 @@ def main():
                 seen[path] = seen.get(path, 0) + 1
                 if why := fault(lines, path):
                     bad.append(f"{crate.name}/{edit.stem}: {path}: {why}")
-        if (crate / "must-fail").is_dir():
-            bad += [f"{path}: {seen.get(path, 0)} wrong programs, not two" for path in public(crate) if seen.get(path, 0) < 2]
+    bad += [f"{path}: {seen.get(path, 0)} wrong programs, not two" for path in public() if seen.get(path, 0) < 2]
     for line in bad:
         print("refused:", line, file=sys.stderr)
     print(f"refused: {count} wrong programs, each at a fact of its own" if not bad else f"refused: {len(bad)} faults")

@@ -1,16 +1,18 @@
 #!/usr/bin/env python3
-"""Prints two tables of docs/THEOREMS.md from the sources, or with `--check` compares them with what stands there.
+"""Writes three tables of docs/THEOREMS.md from the sources, or with `--check` compares them with what stands there.
 
-Of each public function: the comment above it, its file and the definitions that its contract cites with theirs, the theorem that
-two results which the contract allows coincide, and its two wrong programs, in the words of the edits' lines
-`# fn CRATE::PATH: what is wrong`. Of each private function that an edit names: what is wrong there.
+Of each public function, the product's and the programs' own: the comment above it, its file, the definitions that its contract
+cites with theirs, the theorem that two results which the contract allows coincide, and its two wrong programs, in the words of the
+edits' lines `# fn CRATE::PATH: what is wrong`. Of each private function that an edit names: what is wrong there.
 In docs/THEOREMS.md a table stands between the lines `<!-- NAME -->` and `<!-- end -->`.
 """
 import re
 import sys
 
-from check_coincide import functions, named
-from check_refused import FN, ROOT, public
+from check_coincide import PROGRAMS, functions, named
+from check_refused import FN, ROOT
+
+TABLE = re.compile(r"<!-- (\w+) -->\n(.*?)<!-- end -->", re.S)
 
 
 def defined():
@@ -41,21 +43,21 @@ def cited(path, contract, files, parameters):
     return "; ".join(f"{', '.join(names)} ({file})" for file, names in groups.items())
 
 
-def told(crate, owner, name):
+def told(crate, module, owner, name):
     """The file of a public function, the comment above it, and its contract."""
-    for path in sorted((ROOT / "crates" / crate / "src").glob("*.rt")):
-        text, at, here = path.read_text(), 0, ""
-        for line in text.splitlines(keepends=True):
-            if m := re.match(r"impl(?:<[^>]*>)? (\w+)", line):
-                here = m[1]
-            elif line.startswith("}"):
-                here = ""
-            if re.match(rf"\s*pub (extern \"C\" )?fn {name}\b", line) and here == owner:
-                above = re.search(r"((?:^ *//.*\n)*)(?:^ *#\[.*\n)?\Z", text[:at], re.M)[1]
-                words = " ".join(re.sub(r"^ *// ?", "", l) for l in above.splitlines())
-                contract = " ".join(re.findall(r"ensures.*?⌝ }", text[at:text.index("\n{\n" if not owner else "\n    {\n", at)], re.S))
-                return path, words, contract
-            at += len(line)
+    path = ROOT / "crates" / crate / "src" / f"{module or 'lib'}.rt"
+    text, at, here = path.read_text(), 0, ""
+    for line in text.splitlines(keepends=True):
+        if m := re.match(r"impl(?:<[^>]*>)? (\w+)", line):
+            here = m[1]
+        elif line.startswith("}"):
+            here = ""
+        if re.match(rf"\s*pub (extern \"C\" )?fn {name}\b", line) and here == owner:
+            above = re.search(r"((?:^ *//.*\n)*)(?:^ *#\[.*\n)?\Z", text[:at], re.M)[1]
+            words = " ".join(re.sub(r"^ *// ?", "", l) for l in above.splitlines())
+            contract = " ".join(re.findall(r"ensures.*?⌝ }", text[at:text.index("\n{\n" if not owner else "\n    {\n", at)], re.S))
+            return path, words, contract
+        at += len(line)
     sys.exit(f"{crate}::{name}: not found")
 
 
@@ -71,48 +73,41 @@ def wrong_programs():
     return wrong
 
 
-def seen_as(path):
-    """The name by which others see a public function: without the module that it stands in."""
-    crate, *inner = path.split("::")
-    return "::".join([crate] + [word for word in inner[:-1] if word[0].isupper()] + inner[-1:])
-
-
 def table(head, rows):
     lines = ["| " + " | ".join(head) + " |", "|---" * len(head) + "|"]
     return "\n".join(lines + ["| " + " | ".join(cells) + " |" for cells in rows]) + "\n"
 
 
 def tables():
-    files, wrong, order = defined(), wrong_programs(), re.findall(r"^(\w+):", (ROOT / "crates.txt").read_text(), re.M)
-    shown = {seen_as(path): path for crate in order if (ROOT / "crates" / crate / "must-fail").is_dir() for path in public(ROOT / "crates" / crate)}
-    rows = []
-    for crate, owner, name, parameters, _ in sorted(functions(), key=lambda f: order.index(f[0])):
-        seen = "::".join([crate] + [owner] * bool(owner) + [name])
-        path, words, contract = told(crate, owner, name)
+    files, wrong, rows, shown = defined(), wrong_programs(), {True: [], False: []}, set()
+    for crate, module, owner, name, parameters, _ in functions():
+        full = "::".join(filter(None, (crate, module, owner, name)))
+        shown.add(full)
+        path, words, contract = told(crate, module, owner, name)
         says = f"{words} {path.relative_to(ROOT)}; {cited(path, contract, files, parameters)}".rstrip("; ")
-        rows.append((f"`{seen}`", says, f"`{named(owner, name)}`", *wrong.get(shown.get(seen), ["", ""])))
-    hidden = [(f"`{path}`", words) for path in wrong if path not in shown.values() for words in wrong[path]]
+        seen = "::".join(filter(None, (crate, owner, name)))
+        rows[crate in PROGRAMS].append((f"`{seen}`", says, f"`{named(owner, name)}`", *wrong.get(full, ["", ""])))
+    hidden = [(f"`{path}`", words) for path in wrong if path not in shown for words in wrong[path]]
+    head = ["function", "its contract", "two results coincide", "wrong program 1", "wrong program 2"]
     return {
-        "functions": table(["function", "its contract", "two results coincide", "wrong program 1", "wrong program 2"], rows),
+        "functions": table(head, rows[False]),
+        "programs": table(head, rows[True]),
         "private": table(["private function", "wrong program"], hidden),
     }
 
 
 def main():
-    made = tables()
+    page = ROOT / "docs/THEOREMS.md"
+    text, made = page.read_text(), tables()
+    stands = dict(TABLE.findall(text))
+    if set(stands) != set(made):
+        sys.exit(f"docs/THEOREMS.md: has the tables {sorted(stands)}, not {sorted(made)}")
     if sys.argv[1:] != ["--check"]:
-        for name, text in made.items():
-            print(f"<!-- {name} -->\n{text}<!-- end -->\n")
-        return 0
-    page = (ROOT / "docs/THEOREMS.md").read_text()
-    stands = dict(re.findall(r"<!-- (\w+) -->\n(.*?)<!-- end -->", page, re.S))
-    bad = [name for name in made if stands.get(name) != made[name]]
-    if bad:
-        print(f"docs/THEOREMS.md: not what scripts/functions_table.py prints: {', '.join(bad)}", file=sys.stderr)
-    else:
-        print("docs/THEOREMS.md: the tables of functions are what the sources say")
-    return bool(bad)
+        page.write_text(TABLE.sub(lambda m: f"<!-- {m[1]} -->\n{made[m[1]]}<!-- end -->", text))
+    elif bad := [name for name in made if stands[name] != made[name]]:
+        sys.exit(f"docs/THEOREMS.md: not what scripts/functions_table.py writes: {', '.join(bad)}")
+    print("docs/THEOREMS.md: the tables of functions are what the sources say")
 
 
 if __name__ == "__main__":
-    sys.exit(main())
+    main()

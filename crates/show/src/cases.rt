@@ -10,23 +10,24 @@ ghost use lib.ListN.{replicate};
 ghost use Rattle.show.specs.Input.{fieldAt, namedAt, listedAt};
 ghost use Rattle.show.specs.Filled.{rowsWith, samplesBy};
 
-// The word number j of a case.
 fn field_bits(s: &[u8], at: usize, j: usize) -> u32
     ensures { λ r. ⌜ r ≡ fieldAt (now (s .entry)) at j ⌝ }
 {
     word(rest(s, at), j)
 }
 
+// The word number j of a case.
 pub fn field(s: &[u8], at: usize, j: usize) -> usize
     ensures { λ r. ⌜ r ≡ fieldAt (now (s .entry)) at j ⌝ }
 {
     field_bits(s, at, j) as usize
 }
 
-// The bytes that a case names by word j, where they begin, and the next, how many there are. A u32 always has a next in a usize.
+// The bytes that a case names by word j, where they begin, and the next, how many there are.
 pub fn named<'a>(s: &'a [u8], at: usize, j: u32) -> &'a [u8]
     ensures { λ r. ⌜ now r ≡ namedAt (now (s .entry)) at j ⌝ }
 {
+    // A u32 always has a next in a usize.
     let i = j as usize;
     first(rest(s, field(s, at, i)), field(s, at, i + 1))
 }

@@ -13,7 +13,7 @@ pub fn rest<'a>(s: &'a [u8], at: usize) -> &'a [u8]
     &s[at..]
 }
 
-// The first n, or none where there are fewer.
+// The first n bytes, or none where there are fewer.
 pub fn first<'a>(s: &'a [u8], n: usize) -> &'a [u8]
     ensures { λ r. ⌜ now r ≡ firstOf n (now (s .entry)) ⌝ }
 {
@@ -23,20 +23,22 @@ pub fn first<'a>(s: &'a [u8], n: usize) -> &'a [u8]
     &s[0..n]
 }
 
-pub fn first_u16<'a>(s: &'a [u16], n: usize) -> &'a [u16]
-    ensures { λ r. ⌜ now r ≡ firstOf n (now (s .entry)) ⌝ }
+// The first n numbers, or none where there are fewer.
+pub fn first_u16<'a>(numbers: &'a [u16], n: usize) -> &'a [u16]
+    ensures { λ r. ⌜ now r ≡ firstOf n (now (numbers .entry)) ⌝ }
 {
-    if s.len() < n {
-        return &s[..0];
+    if numbers.len() < n {
+        return &numbers[..0];
     }
-    &s[0..n]
+    &numbers[0..n]
 }
 
-pub fn first_i32<'a>(s: &'a [i32], n: usize) -> &'a [i32]
-    ensures { λ r. ⌜ now r ≡ firstOf n (now (s .entry)) ⌝ }
+// The first n samples, or none where there are fewer.
+pub fn first_i32<'a>(samples: &'a [i32], n: usize) -> &'a [i32]
+    ensures { λ r. ⌜ now r ≡ firstOf n (now (samples .entry)) ⌝ }
 {
-    if s.len() < n {
-        return &s[..0];
+    if samples.len() < n {
+        return &samples[..0];
     }
-    &s[0..n]
+    &samples[0..n]
 }
