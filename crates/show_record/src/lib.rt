@@ -1,7 +1,8 @@
 // What `quantlist` writes of a header. Why it has no contract: see the head of `show`.
 use record::Written;
 
-// The record of rows without raw kinds. The longest has 7,079 bytes: six kinds with 123 numbers, eleven with 48.
+// The record of rows that were read without raw kinds. It has at most 7,079 bytes, so writing it is never refused here: `listed`, crate
+// promises.
 fn show_rows(rows: &[u16]) {
     let mut text = [0u8; 8192];
     match record::write_record(rows, &[], &mut text) {
