@@ -67,7 +67,7 @@ module _ (d : ℕ) (fine : barred d ≡ false) where
 
   module _ (zs : List ℤ) (long : length zs ≡ 394752) where
     -- and are accepted where no sample of a raw kind times the denominator is refused
-    pub first-done : ((i : ℕ) → i < placesOf 0 → refused (weightOf (half d) (getD zs i (pos 0))) ≡ false) → replyOf (expandSet (rawFirst d) zs 394752 394752) ≡ 0 ∷ []
+    first-done : ((i : ℕ) → i < placesOf 0 → refused (weightOf (half d) (getD zs i (pos 0))) ≡ false) → replyOf (expandSet (rawFirst d) zs 394752 394752) ≡ 0 ∷ []
     unfolding startOf
     first-done f = mixed-set (rawFirst d) zs 394752 394752 (whole-lent (rawFirst d) zs (headed-length (rawRow d) zeroRow refl refl) long) first-passes each
       where
@@ -91,7 +91,7 @@ module _ (d : ℕ) (fine : barred d ≡ false) where
     pub first-same : replyOf (expandSet (rawFirst d) (replicate n z) 394752 394752) ≡ 0 ∷ []
     first-same = first-done (replicate n z) (length-replicate n z ∙ whole) (λ i h. same-fine i (lt-of-lt-of-le h first-fits))
 
-    pub all-same : replyOf (expandSet (rawAll d) (replicate n z) 394752 394752) ≡ 0 ∷ []
+    all-same : replyOf (expandSet (rawAll d) (replicate n z) 394752 394752) ≡ 0 ∷ []
     all-same = all-done (replicate n z) (length-replicate n z ∙ whole) same-fine
 
 -- ---- all samples 1 at the denominator 1
