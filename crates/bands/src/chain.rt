@@ -4,9 +4,7 @@ use crate::lanes::Eight;
 use crate::lanes::digit;
 use crate::lanes::digits_eight;
 ghost use mathlib.Core.Path.{_≡_};
-ghost use Prim.Native.Nat.{ℕ, _+_, _*_, _^_, _≤_, _<_};
-ghost use lib.Dec.{T};
-ghost use lib.ListN.{getD};
+ghost use Prim.Native.Nat.{_+_, _*_, _^_, _≤_, _<_};
 ghost use Rattle.bands.specs.Root.{wholeRoot};
 ghost use Rattle.bands.specs.Views.{Near, Nearly, Less, Next};
 
@@ -95,30 +93,14 @@ fn by_halves(last: [u32; 8]) -> [u32; 8]
     all
 }
 
-// Whether all eight are as near to 2^31 as their chains' ends are, which those of the ratio 1 are from the start.
-fn near_ends(last: [u32; 8]) -> bool
-    ensures { λ r. ⌜ (T r → (i : ℕ) → i < 8 → getD last i 0 < 2 ^ 31 + 2 ^ 16) ⌝ }
-{
-    let mut i: usize = 0;
-    while i < 8 {
-        if last[i] >= 2147549184 {
-            return false;
-        }
-        i += 1;
-    }
-    true
-}
-
 // The numbers that follow number j of eight chains.
 pub(crate) fn next_eight(last: [u32; 8], j: usize) -> [u32; 8]
     requires { ⌜ Near j last ⌝ }
     ensures { λ r. ⌜ Next last r ⌝ }
 {
-    if j >= 15 {
-        return by_halves(last);
+    if j < 15 {
+        by_digits(last, j)
+    } else {
+        by_halves(last)
     }
-    if near_ends(last) {
-        return by_halves(last);
-    }
-    by_digits(last, j)
 }
