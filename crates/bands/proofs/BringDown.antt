@@ -7,7 +7,7 @@ use native.Mathlib.Omega.{arith}
 use lib.Dec.{T, ltb, ltb→lt, nltb→le, lit≤, lit<}
 use lib.Pow.{pow-pos}
 use lib.Bits.{bitOr, or-shifted}
-use Rattle.bands.specs.Root.{wholeRoot, IsRoot}
+use Rattle.bands.specs.Root.{wholeRoot}
 use Rattle.bands.specs.Views.{Down}
 use Rattle.bands.proofs.Roots.{whole-is, root-unique, sq-suc, sq-dbl}
 

@@ -2,8 +2,8 @@
 use mathlib.Core.Path.{_≡_, refl, sym, ap, _∙_, subst}
 use mathlib.Core.Bool.{Bool, true, false, not, cond}
 use mathlib.Core.Logic.{_⊎_, inl, inr}
-use Prim.Native.Nat.{ℕ, zero, suc, _+_, _-_, _*_, _/_, _%_, _^_, _≤_, _<_, zero-le}
-use native.Mathlib.Nat.{le-trans, le-of-eq, le-antisymm, lt-of-lt-of-le, lt-of-le-of-lt, mul-comm, mul-assoc, mul-one, one-mul, add-mul, mul-le-mul, mul-le-mul-right, mul-lt-mul-of-pos-right, div-lt-iff-lt-mul, div-add-mod', mod-lt, mod-eq-of-lt, mul-add-mod-self-right, pow-suc}
+use Prim.Native.Nat.{ℕ, zero, suc, _+_, _-_, _*_, _/_, _%_, _^_, _≤_, _<_}
+use native.Mathlib.Nat.{le-trans, le-of-eq, lt-of-lt-of-le, lt-of-le-of-lt, mul-comm, mul-assoc, add-mul, mul-le-mul, mul-le-mul-right, mul-lt-mul-of-pos-right, div-lt-iff-lt-mul, div-add-mod', mod-lt, mod-eq-of-lt, mul-add-mod-self-right, pow-suc}
 use native.Mathlib.Omega.{arith}
 use lib.Dec.{T, ltb, ltb→lt, nltb→le, lit≤, lit<}
 use lib.Pow.{pow-pos, pow-add, pow-mono}

@@ -3,11 +3,11 @@ use mathlib.Core.Path.{_≡_, refl, sym, ap, _∙_, subst}
 use mathlib.Core.Logic.{_⊎_, inl, inr}
 use mathlib.Core.List.{List}
 use Prim.Native.Nat.{ℕ, _+_, _*_, _^_, _≤_, _<_, min}
-use native.Mathlib.Nat.{le-trans, le-of-eq, lt-irrefl, lt-of-lt-of-le, lt-of-le-of-lt, min-le-right, min-eq-left, not-suc-le-zero}
+use native.Mathlib.Nat.{le-trans, le-of-eq, lt-of-lt-of-le, lt-of-le-of-lt, min-le-right, min-eq-left, not-suc-le-zero}
 use native.Mathlib.Omega.{arith}
 use lib.ListN.{length, getD, set, replicate, length-set, length-replicate, getD-replicate}
 use lib.Seq.{getD-set-same, getD-set-other}
-use lib.Ieee.{Float, nan, binary32, toBits, ofBits, add, mul}
+use lib.Ieee.{Float, nan, binary32, toBits, ofBits, mul}
 use lib.Ieee.Bits.{ofBits-toBits}
 use lib.Ieee.Fits.{add-fits}
 use Rattle.bands.specs.Root.{wholeRoot, rootOf}

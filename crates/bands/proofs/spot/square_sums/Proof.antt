@@ -1,11 +1,9 @@
 -- `spot::square_sums`: those of the lanes before i are there. Assumes nothing.
-use mathlib.Core.Path.{_≡_, refl, sym, ap, _∙_, subst}
-use mathlib.Core.Bool.{not}
-use Prim.Native.Nat.{ℕ, _+_, _-_, _≤_, min}
+use mathlib.Core.Path.{_≡_, refl, ap, _∙_}
+use Prim.Native.Nat.{ℕ, _-_}
 use native.Mathlib.Nat.{le-trans, le-of-eq, min-le-right}
 use native.Mathlib.Omega.{arith}
-use lib.Dec.{T}
-use lib.Ieee.{binary32, isNan, toBits}
+use lib.Ieee.{binary32, toBits}
 use Rattle.bands.specs.Views.{sumOf, sumBits, raisedOf}
 use Rattle.bands.proofs.Distance.{sum-number}
 use Rattle.bands.proofs.TableLaws.{Building, building-none, building-more, building-all}

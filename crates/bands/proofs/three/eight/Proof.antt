@@ -1,7 +1,6 @@
 -- `three::eight`: the starts before i are there. Assumes nothing.
 use mathlib.Core.Path.{refl}
 use Prim.Native.Nat.{_+_, _-_}
-use native.Mathlib.Omega.{arith}
 use lib.ListN.{getD}
 use Rattle.bands.proofs.TableLaws.{Building, building-none, building-more, building-all}
 use borrow.Author.Needs.{needs}

@@ -1,6 +1,6 @@
 -- `three::put_eight`: the first i of eight numbers are laid (`Scattering`). Assumes nothing.
-use mathlib.Core.Path.{_≡_, sym, _∙_}
-use Prim.Native.Nat.{_+_, _-_, _*_, _≤_, _<_}
+use mathlib.Core.Path.{sym, _∙_}
+use Prim.Native.Nat.{_+_, _-_, _<_}
 use native.Mathlib.Nat.{le-of-eq, lt-of-lt-of-le}
 use native.Mathlib.Omega.{arith}
 use lib.ListN.{getD}

@@ -1,5 +1,4 @@
 -- `three::put_starts`: exponents and starts of the ratios before p are there (`Starting`). Assumes nothing.
-use mathlib.Core.Path.{_≡_}
 use Prim.Native.Nat.{_+_, _-_, _*_, _≤_, _<_}
 use native.Mathlib.Omega.{arith}
 use Rattle.bands.proofs.Tables.{Starting, starting-none, starting-more, starting-all}
