@@ -49,7 +49,8 @@ pub struct Eight {
     pub rem: [u32; 8],
 }
 
-// The last n digits of eight roots of at most 29, from those before them, what is beyond their squares, and the digits to come.
+// The last n digits of eight roots, from those before them, what is beyond their squares, and the digits to come. No root has more than
+// 29 digits, so that what is compared has 31.
 pub(crate) fn digits_eight(root: [u32; 8], rem: [u32; 8], left: [u32; 8], n: usize) -> Eight
     requires { ⌜ Begun n root rem left ⌝ }
     ensures { λ r. ⌜ Ended n root rem left (r .root) (r .rem) ⌝ }
