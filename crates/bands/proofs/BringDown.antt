@@ -7,9 +7,10 @@ use native.Mathlib.Omega.{arith}
 use lib.Dec.{T, ltb, ltb→lt, nltb→le, lit≤, lit<}
 use lib.Pow.{pow-pos}
 use lib.Bits.{bitOr, or-shifted}
+use mir.Val.{boolByte}
 use Rattle.bands.specs.Root.{wholeRoot}
 use Rattle.bands.specs.Views.{Down}
-use Rattle.bands.proofs.Roots.{whole-is, root-unique, sq-suc, sq-dbl}
+use Rattle.bands.proofs.Roots.{root-by, sq-suc, sq-dbl}
 
 -- ---- a turn, where `two` comes down and l is left
 brought : (X P Q two l left : ℕ) → P ≡ 4 * Q → left ≡ two * Q + l → (4 * X + two) * P + 4 * l ≡ (X * P + left) * 4
@@ -74,11 +75,19 @@ module _ (P top N rem root left : ℕ) (d : Down P top N 0 rem root left) where
       near X h = omega arith
 
   pub down-all : root ≡ wholeRoot N
-  down-all = root-unique N root (wholeRoot N) (record { low = omega (arith, down-sum); high = omega (arith, down-sum, sq-suc root, d .less) }) (whole-is N)
+  down-all = root-by N root (record { low = omega (arith, down-sum); high = omega (arith, down-sum, sq-suc root, d .less) })
 
 -- ---- the same in words: a shift to the left is a product that the word cuts off, and a bit is shifted in where a 0 stands
 half : (r P : ℕ) → r * 4 < P → r * 2 < P
 half r P h = omega arith
+
+pub put : (P r d : ℕ) → r * 2 < P → d < 2 → bitOr (r * 2 % P) d ≡ r * 2 + d
+put P r d h l = ap (λ (z : ℕ). bitOr z d) (mod-eq-of-lt h) ∙ or-shifted r 1 d l
+
+-- a compare as a digit
+pub byte : (b : Bool) → boolByte b ≡ cond {A = ℕ} b 1 0
+byte true = refl
+byte false = refl
 
 -- rem with two digits of `left` brought down, and four times the root, in words of P ≡ 4 * Q
 abbrev pub brings : ℕ → ℕ → ℕ → ℕ → ℕ
@@ -131,10 +140,10 @@ module _ (P Q top N n rem root left : ℕ) (p : P ≡ 4 * Q) (q : 0 < Q) (wide :
   quad = mod-eq-of-lt root-fits
 
   put-one : bitOr (root * 2 % P) 1 ≡ root * 2 + 1
-  put-one = ap (λ (z : ℕ). bitOr z 1) (mod-eq-of-lt (half root P root-fits)) ∙ or-shifted root 1 1 (lit< tt)
+  put-one = put P root 1 (half root P root-fits) (lit< tt)
 
   put-zero : bitOr (root * 2 % P) 0 ≡ root * 2
-  put-zero = ap (λ (z : ℕ). bitOr z 0) (mod-eq-of-lt (half root P root-fits)) ∙ or-shifted root 1 0 (lit< tt) ∙ add-zero (root * 2)
+  put-zero = put P root 0 (half root P root-fits) (lit< tt) ∙ add-zero (root * 2)
 
   -- the turn that the code takes
   turn-one : fourfold P root < brings P Q rem left → Down P (suc top) N (n - 1) (brings P Q rem left - fourfold P root - 1) (bitOr (root * 2 % P) 1) (left * 4 % P)

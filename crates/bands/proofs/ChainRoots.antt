@@ -7,29 +7,27 @@ use native.Mathlib.Nat.{le-trans, le-of-eq, lt-of-lt-of-le, lt-of-le-of-lt, mul-
 use native.Mathlib.Omega.{arith}
 use lib.Dec.{T, ltb, ltb→lt, nltb→le, lit≤, lit<}
 use lib.Pow.{pow-pos, pow-add, pow-mono}
-use lib.Bits.{bitOr, or-shifted, or-shifted-r}
+use lib.Bits.{bitOr, or-shifted-r}
 use Rattle.bands.specs.Root.{wholeRoot, IsRoot}
 use Rattle.bands.specs.Power.{chain}
 use lib.ListN.{length, getD, replicate, length-replicate, getD-replicate}
 use mathlib.Core.List.{List}
-use Rattle.bands.specs.Views.{Lane, Lanes, Begun, Ended, Near, Nearly, Less}
+use Rattle.bands.specs.Eights.{Lane, Lanes, Begun, Ended, Near, Nearly, Less}
 use Rattle.transform.proofs.Laws.{side}
 use Rattle.bands.proofs.DoubleRoot.{pow4}
 use Rattle.bands.proofs.Chains.{chain-ge}
-use Rattle.bands.proofs.Roots.{whole-is, root-unique, sq-suc, sq-cancel}
+use Rattle.bands.proofs.BringDown.{put}
+use Rattle.bands.proofs.Roots.{whole-is, root-by, sq-suc, sq-cancel}
 
 -- ---- near the end: of 2 ^ 31 + k
-root-by : (x r : ℕ) → IsRoot x r → r ≡ wholeRoot x
-root-by x r h = root-unique x r (wholeRoot x) h (whole-is x)
+square : (m : ℕ) → (2 ^ 31 + m) * (2 ^ 31 + m) ≡ 2 ^ 62 + 2 ^ 32 * m + m * m
+square m = omega arith
 
 is-half : (k f : ℕ) → 2 * f + 1 ≤ k → k ≤ 2 * f + 2 → f ≤ 2 ^ 15 → IsRoot ((2 ^ 31 + k) * 2 ^ 31) (2 ^ 31 + f)
 is-half k f a b c =
     let sq : f * f ≤ 2 ^ 15 * f = mul-le-mul-right f c in
     let one : (2 ^ 31 + f) * (2 ^ 31 + f) ≡ 2 ^ 62 + 2 ^ 32 * f + f * f = square f in
     record { low = omega arith; high = omega (arith, sq-suc (2 ^ 31 + f)) }
-  where
-    square : (f : ℕ) → (2 ^ 31 + f) * (2 ^ 31 + f) ≡ 2 ^ 62 + 2 ^ 32 * f + f * f
-    square f = omega arith
 
 pub half-some : (x : ℕ) → 2 ^ 31 ≤ x → x < 2 ^ 31 + 2 ^ 16 → 0 < x - 2 ^ 31 → bitOr ((x - 2 ^ 31 - 1) / 2) (2 ^ 31) ≡ wholeRoot (x * 2 ^ 31)
 half-some x lo hi h =
@@ -105,20 +103,20 @@ module _ (r m x a y b : ℕ) (R : r < 2 ^ 29) (M : m ≤ 2 * r) (fx : Leaves x r
 -- the digits shifted in
 pub shifted : (r x y z : ℕ) → r < 2 ^ 29 → x ≤ 1 → y ≤ 1 → z ≤ 1 → bitOr (bitOr (bitOr (r * 2 % 2 ^ 32) x * 2 % 2 ^ 32) y * 2 % 2 ^ 32) z ≡ 8 * r + 4 * x + 2 * y + z
 shifted r x y z R X Y Z =
-    ap (λ (k : ℕ). bitOr (bitOr (k * 2 % 2 ^ 32) y * 2 % 2 ^ 32) z) (put r x (lt-of-lt-of-le R (lit≤ tt)) X)
-    ∙ ap (λ (k : ℕ). bitOr (k * 2 % 2 ^ 32) z) (put (r * 2 + x) y (omega arith) Y)
-    ∙ put ((r * 2 + x) * 2 + y) z (omega arith) Z
+    ap (λ (k : ℕ). bitOr (bitOr (k * 2 % 2 ^ 32) y * 2 % 2 ^ 32) z) (put (2 ^ 32) r x (omega arith) (under X))
+    ∙ ap (λ (k : ℕ). bitOr (k * 2 % 2 ^ 32) z) (put (2 ^ 32) (r * 2 + x) y (omega arith) (under Y))
+    ∙ put (2 ^ 32) ((r * 2 + x) * 2 + y) z (omega arith) (under Z)
     ∙ sum r x y z
   where
-    put : (r d : ℕ) → r < 2 ^ 31 → d ≤ 1 → bitOr (r * 2 % 2 ^ 32) d ≡ r * 2 + d
-    put r d h l = let e : r * 2 % 2 ^ 32 ≡ r * 2 = omega arith in ap (λ (k : ℕ). bitOr k d) e ∙ or-shifted r 1 d (lt-of-le-of-lt l (lit< tt))
+    under : {d : ℕ} → d ≤ 1 → d < 2
+    under l = lt-of-le-of-lt l (lit< tt)
 
     sum : (r x y z : ℕ) → ((r * 2 + x) * 2 + y) * 2 + z ≡ 8 * r + 4 * x + 2 * y + z
     sum r x y z = omega arith
 
 -- 2 * y + 1, by its bits
 pub odd : (y : ℕ) → y ≤ 1 → bitOr (y * 2 % 2 ^ 32) 1 ≡ 2 * y + 1
-odd y h = let e : y * 2 % 2 ^ 32 ≡ y * 2 = omega arith in ap (λ (k : ℕ). bitOr k 1) e ∙ or-shifted y 1 1 (lit< tt) ∙ ap (λ (k : ℕ). k + 1) (mul-comm y 2)
+odd y h = put (2 ^ 32) y 1 (omega arith) (lit< tt) ∙ ap (λ (k : ℕ). k + 1) (mul-comm y 2)
 
 pub told-some : (d r t : ℕ) → Told d r t → 0 < d → r < t
 told-some d r t (inl s) h = omega arith
@@ -137,9 +135,9 @@ join : (a b c : ℕ) → a + b ≡ c → 2 ^ a * 2 ^ b ≡ 2 ^ c
 join a b c e = sym (pow-add 2 a b) ∙ ap (λ (z : ℕ). 2 ^ z) e
 
 -- over variables: A and B cut a word, C is the root so far, and D the pairs to come
-begins : (k A B C D n : ℕ) → 0 < A → A * B ≡ 2 ^ 32 → B * D ≡ 2 ^ 56 → C * C * D ≡ 2 ^ 56 → 4 ^ n ≡ D → 2 * k < 2 * C * A → (C + 1) * 2 ^ n ≤ 2 ^ 29
+begins : (k A B C D n : ℕ) → 0 < A → 0 < B → A * B ≡ 2 ^ 32 → B * D ≡ 2 ^ 56 → C * C * D ≡ 2 ^ 56 → 4 ^ n ≡ D → 2 * k < 2 * C * A → (C + 1) * 2 ^ n ≤ 2 ^ 29
     → Lane (2 ^ 56 + k * 2 ^ 25) n (2 * k / A) C (2 * k * B % 2 ^ 32)
-begins k A B C D n pos word low high pairs small room = record {
+begins k A B C D n pos B-pos word low high pairs small room = record {
   same = ap (λ (z : ℕ). ((2 * k / A + C * C) * 2 ^ 32 + 2 * k * B % 2 ^ 32) * z) pairs ∙ ap (λ (z : ℕ). ((2 * k / A + C * C) * 2 ^ 32 + z) * D) cut ∙ whole;
   fits = mod-lt (2 * k * B) (lit< tt);
   less = near (2 * k / A) (2 * C) (div-lt-iff-lt-mul pos .1 small);
@@ -154,16 +152,6 @@ begins k A B C D n pos word low high pairs small room = record {
 
     back : 2 * k / A * A + 2 * k % A ≡ 2 * k
     back = div-add-mod' (2 * k) A
-
-    B-pos : 0 < B
-    B-pos = go B word
-      where
-        go : (B : ℕ) → A * B ≡ 2 ^ 32 → 0 < B
-        go zero e = absurd (no (sym (native.Mathlib.Nat.mul-zero A) ∙ e))
-          where
-            no : 0 ≡ 2 ^ 32 → ⊥
-            no z = omega arith
-        go (suc B) e = native.Mathlib.Nat.zero-lt-suc B
 
     -- what a word cuts off is the upper digits, which are there already
     cut : 2 * k * B % 2 ^ 32 ≡ 2 * k % A * B
@@ -217,7 +205,7 @@ module _ (x j : ℕ) (J : j < 15) (lo : 2 ^ 31 ≤ x) (hi : x < 2 ^ 31 + 2 ^ (31
       subst (λ (s : ℕ). Lane (2 ^ 56 + (x - 2 ^ 31) * 2 ^ 25) (27 - j) (x * 2 % 2 ^ 32 / 2 ^ s) (2 * 2 ^ j % 2 ^ 32) (x * 2 % 2 ^ 32 * 2 ^ (32 - s) % 2 ^ 32)) (sym shift-is)
       (subst (λ (w : ℕ). Lane (2 ^ 56 + (x - 2 ^ 31) * 2 ^ 25) (27 - j) (w / 2 ^ (30 - 2 * j)) (2 * 2 ^ j % 2 ^ 32) (w * 2 ^ (32 - (30 - 2 * j)) % 2 ^ 32)) (sym twice)
       (subst (λ (r : ℕ). Lane (2 ^ 56 + (x - 2 ^ 31) * 2 ^ 25) (27 - j) (2 * (x - 2 ^ 31) / 2 ^ (30 - 2 * j)) r (2 * (x - 2 ^ 31) * 2 ^ (32 - (30 - 2 * j)) % 2 ^ 32)) (sym bit)
-      (begins (x - 2 ^ 31) (2 ^ (30 - 2 * j)) (2 ^ (32 - (30 - 2 * j))) (2 ^ (1 + j)) (2 ^ (54 - 2 * j)) (27 - j) (pow-pos (30 - 2 * j))
+      (begins (x - 2 ^ 31) (2 ^ (30 - 2 * j)) (2 ^ (32 - (30 - 2 * j))) (2 ^ (1 + j)) (2 ^ (54 - 2 * j)) (27 - j) (pow-pos (30 - 2 * j)) (pow-pos (32 - (30 - 2 * j)))
       (join (30 - 2 * j) (32 - (30 - 2 * j)) 32 (omega arith))
       (join (32 - (30 - 2 * j)) (54 - 2 * j) 56 (omega arith))
       (ap (λ (z : ℕ). z * 2 ^ (54 - 2 * j)) (join (1 + j) (1 + j) (2 + 2 * j) (omega arith)) ∙ join (2 + 2 * j) (54 - 2 * j) 56 (omega arith))
@@ -254,9 +242,6 @@ near-step x r p h lo hi =
     let e : 2 ^ 31 + m ≡ r = omega arith in
     let s : r * r ≡ 2 ^ 62 + 2 ^ 32 * m + m * m = ap (λ (z : ℕ). z * z) (sym e) ∙ square m in
     omega (arith, h .low)
-  where
-    square : (m : ℕ) → (2 ^ 31 + m) * (2 ^ 31 + m) ≡ 2 ^ 62 + 2 ^ 32 * m + m * m
-    square m = omega arith
 
 half-power : (j : ℕ) → 2 ^ (31 - j) ≤ 2 * 2 ^ (31 - suc j)
 half-power j = elim (side j 31) [

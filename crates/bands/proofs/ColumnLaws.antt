@@ -13,7 +13,7 @@ use lib.Ieee.Fits.{add-fits}
 use Rattle.bands.specs.Root.{wholeRoot, rootOf}
 use Rattle.bands.specs.Distance.{shareOf, distanceOf}
 use Rattle.bands.specs.Position.{positionOf}
-use Rattle.bands.specs.Views.{Lane, Lanes, Begun, Ended, raisedOf, Inside, sumOf, sumBits, Squared}
+use Rattle.bands.specs.Eights.{Lane, Lanes, Begun, Ended, raisedOf, Inside, sumOf, sumBits, Squared}
 use Rattle.bands.specs.Grids.{Columns}
 use Rattle.bands.proofs.ChainLists.{split-lt}
 use Rattle.bands.proofs.LaneRoots.{lane-raised, raised-root}

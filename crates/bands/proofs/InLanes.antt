@@ -14,7 +14,7 @@ use lib.Signed.{ltZ}
 use mir.Val.{toZ}
 use mir.ValLaws.{toZ-pos}
 use mir.Syntax.{w32}
-use Rattle.bands.specs.Views.{Lane, Lanes, Begun, Turning, Turned, Ended}
+use Rattle.bands.specs.Eights.{Lane, Lanes, Begun, Turning, Turned, Ended}
 use Rattle.bands.proofs.ChainLists.{split-lt}
 use Rattle.bands.proofs.BringDown.{brings, fourfold, small, come, quad, turn, down-sum, down-all}
 

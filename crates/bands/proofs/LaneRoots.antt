@@ -7,7 +7,8 @@ use lib.Dec.{lit<, lit≤}
 use lib.Bits.{bitOr, or-shifted-r}
 use lib.Ieee.{binary32, ofBits}
 use Rattle.bands.specs.Root.{wholeRoot, rootOf, IsRoot}
-use Rattle.bands.specs.Views.{Lifted, Lane, raisedOf}
+use Rattle.bands.specs.Views.{Lifted}
+use Rattle.bands.specs.Eights.{Lane, raisedOf}
 use Rattle.bands.proofs.Roots.{whole-is, sq-cancel}
 use Rattle.bands.proofs.Lift.{start, done}
 use Rattle.bands.proofs.Written.{root-bits}

@@ -6,7 +6,7 @@ use crate::lanes::digits_eight;
 ghost use mathlib.Core.Path.{_≡_};
 ghost use Prim.Native.Nat.{_+_, _*_, _^_, _≤_, _<_};
 ghost use Rattle.bands.specs.Root.{wholeRoot};
-ghost use Rattle.bands.specs.Views.{Near, Nearly, Less, Next};
+ghost use Rattle.bands.specs.Eights.{Near, Nearly, Less, Next};
 
 // The roots that follow number j of eight chains, but for their last three digits. Those that come down are the digits of last,
 // without its first, and zeros behind them.

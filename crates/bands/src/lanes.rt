@@ -5,7 +5,7 @@ ghost use Prim.Native.Nat.{_-_, _*_, _^_, _≤_, _<_};
 ghost use lib.Dec.{ltb};
 ghost use lib.Ieee.{binary32, ofBits};
 ghost use Rattle.bands.specs.Root.{wholeRoot, rootOf};
-ghost use Rattle.bands.specs.Views.{Turning, Turned, Begun, Ended, raisedOf};
+ghost use Rattle.bands.specs.Eights.{Turning, Turned, Begun, Ended, raisedOf};
 
 // a less t and 1, where t is below a. The compare is that of signed numbers, for which there is a vector form.
 fn over(t: u32, a: u32) -> u32

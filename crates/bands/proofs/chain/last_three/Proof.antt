@@ -4,7 +4,7 @@ use Prim.Native.Nat.{_+_, _-_, _*_, _%_, _^_, _≤_, _<_, zero-le}
 use native.Mathlib.Nat.{le-of-lt, le-trans, le-of-eq}
 use native.Mathlib.Omega.{arith}
 use borrow.Author.Needs.{needs}
-use Rattle.bands.specs.Views.{Less}
+use Rattle.bands.specs.Eights.{Less}
 use Rattle.bands.proofs.ChainRoots.{Told, told, told-some, told-le, told-bit, Leaves, leaves, first-small, second-small, three, shifted, odd}
 use Rattle.bands.proofs.chain.last_three.Statement.{statement}
 use Rattle.bands.proofs.chain.last_three.Tie as tie

@@ -4,7 +4,7 @@ use Prim.Native.Nat.{ℕ, _-_}
 use native.Mathlib.Nat.{le-trans, le-of-eq, min-le-right}
 use native.Mathlib.Omega.{arith}
 use lib.Ieee.{binary32, toBits}
-use Rattle.bands.specs.Views.{sumOf, sumBits, raisedOf}
+use Rattle.bands.specs.Eights.{sumOf, sumBits, raisedOf}
 use Rattle.bands.proofs.Distance.{sum-number}
 use Rattle.bands.proofs.TableLaws.{Building, building-none, building-more, building-all}
 use borrow.Author.Needs.{needs}

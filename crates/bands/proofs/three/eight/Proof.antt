@@ -1,4 +1,4 @@
--- `three::eight`: the starts before i are there. Assumes nothing.
+-- `three::eight`: those before i are there. Assumes nothing.
 use mathlib.Core.Path.{refl}
 use Prim.Native.Nat.{_+_, _-_}
 use lib.ListN.{getD}
@@ -8,10 +8,10 @@ use Rattle.bands.proofs.three.eight.Statement.{statement}
 use Rattle.bands.proofs.three.eight.Tie as tie
 
 abbrev Inv-loop : tie.InvT-loop
-Inv-loop starts p all₀ i₀ all i = Building 0 8 (λ k. getD starts (p + k) 0) all i
+Inv-loop l p all₀ i₀ all i = Building 0 8 (λ k. getD l (p + k) 0) all i
 
 abbrev μ-loop : tie.MeasureT-loop
-μ-loop starts p all₀ i₀ all i = 8 - i
+μ-loop l p all₀ i₀ all i = 8 - i
 
 loop-holds : tie.Need-loop-holds Inv-loop μ-loop
 loop-holds c = building-none _ _ _ _ refl
