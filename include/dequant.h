@@ -21,9 +21,9 @@ extern "C" {
 enum dequant_reply {
     DEQUANT_DONE = 0,    /* finished; its values: see each call */
     DEQUANT_LENT = 1,    /* a wrong length, kind > 16 or channel > 2; nothing changed */
-    DEQUANT_SHORT = 2,   /* kind, bit: the field there runs past the last bit; rows of earlier kinds are written */
-    DEQUANT_MODE = 3,    /* kind, bit: mode not allowed for the kind; as SHORT */
-    DEQUANT_FLOAT = 4,   /* kind, bit: a number with exponent 31; as SHORT */
+    DEQUANT_SHORT = 2,   /* kind, bit, lacks: the field there runs past the last bit, so many of its bits are not there; rows of earlier kinds are written */
+    DEQUANT_MODE = 3,    /* kind, bit: mode not allowed for the kind; rows as SHORT */
+    DEQUANT_FLOAT = 4,   /* kind, bit: a number with exponent 31; rows as SHORT */
     DEQUANT_RAW = 5,     /* kind, next bit: decode the raw samples from there, then resume at the next kind */
     DEQUANT_ROW_BAD = 6, /* kind: a row that no reading writes, or 0 with slot 126 set while some mode is not 0; nothing changed */
     DEQUANT_BAND = 7,    /* kind, channel, band: a band after the first <= 0 or infinite; outputs all zero */

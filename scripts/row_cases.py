@@ -1,6 +1,6 @@
 #!/usr/bin/env python3
 """Makes crates/row_cases/stdin and crates/row_cases/stdout from the vectors of tests/vectors with call=read, write_record,
-read_record or quantlist, and from a set whose kinds are all raw.
+read_record, quantlist or readheader, and from a set whose kinds are all raw. A vector with reply_len is for the C face alone.
 
 A vector is a text file of key=value lines: row.K (the rows, each without the zeros at its end), samples (none, const:V or
 lin:A,B,M: sample p is A + p*B mod M), samples_len and rows_len where they aren't the right ones, text (the record to read, hex),
@@ -21,7 +21,7 @@ SIDES = [(8, 8)] * 4 + [(16, 16), (32, 32), (16, 8), (32, 8), (32, 16), (8, 8), 
 SIDES += [(128, 128), (128, 64), (256, 256), (256, 128)]
 FIXED = [0, 9, 18, 6, 3, 27, 0, 1]  # numbers of a mode that stand before its band lists
 LISTS = [0, 0, 0, 1, 1, 2, 1, 0]
-CALLS = {"write_record": 0, "read_record": 1, "back": 2, "read": 3, "quantlist": 4}
+CALLS = {"write_record": 0, "read_record": 1, "back": 2, "read": 3, "quantlist": 4, "readheader": 5}
 FULL = "lin:-2147483648,2654435761,4294967291"
 
 
@@ -153,14 +153,15 @@ def case(v, name, at):
     whole = 0 if v["call"] == "write_record" and given == "none" else ARENA
     base, step, modulus = rule(given)
     text = bytes.fromhex(v.get("text", v.get("header", "")))
-    words = 15
+    words = 16
+    bit = int(v.get("bit", 0))
     rows_at = at + 4 * words
     text_at = rows_at + 4 * len(rows)
     name_at = text_at + len(text)
     head = [
         name_at, len(name), CALLS[v["call"]], int(v.get("samples_len", whole)), base % 2**32, step, modulus,
         int(v.get("rows_len", ROWS)), rows_at, len(rows), text_at, v.get("length", len(text)), int(v.get("room", 0)),
-        int(v.get("bit", 0)), int(v.get("kind", 0)),
+        bit % 2**32, bit >> 32, int(v.get("kind", 0)),
     ]
     assert len(head) == words
     return struct.pack("<%dI" % len(head + rows), *(head + rows)) + text + name.encode()
@@ -170,7 +171,7 @@ def main():
     cases = []
     for name in sorted(os.listdir(VECTORS)):
         v = load(os.path.join(VECTORS, name))
-        if v["call"] in CALLS:
+        if v["call"] in CALLS and "reply_len" not in v:
             cases.append((name.rsplit(".", 1)[0], v, wanted(v)))
     cases += runs()
     at = 4 + 4 * len(cases)

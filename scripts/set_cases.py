@@ -1,10 +1,10 @@
 #!/usr/bin/env python3
-"""Makes crates/set_cases/stdin and crates/set_cases/stdout from the vectors of tests/vectors with call=expand, expand_kind, lookup or jpeg,
-and from two runs of document 01.
+"""Makes crates/set_cases/stdin and crates/set_cases/stdout from the vectors of tests/vectors with call=expand, expand_kind, lookup, jpeg,
+importer or matrixlist, and from two runs of document 01.
 
 A vector is a text file of key=value lines: row.K (the rows, each without the zeros at its end), samples (none, const:V or
 lin:A,B,M: sample p is A + p*B mod M; behind it P=V for each sample that stands apart), kind, channel, order, rows_len,
-samples_len, straight_len and transposed_len where they aren't the right ones, and what the call must give. What the vectors want
+samples_len, straight_len and transposed_len where they aren't the right ones, header (hex), and what the call must give. What the vectors want
 goes to stdout: the reply; of an arena whether it is unchanged or zero, or else the total and the weights at the places that the
 vector lists; of a part its length, its first and last, and its total, or its values, once they have the digest that the vector
 wants. Nothing of ours is run here."""
@@ -18,7 +18,7 @@ VECTORS = os.path.join(ROOT, "tests", "vectors")
 CRATE = os.path.join(ROOT, "crates", "set_cases")
 ARENA = 394752
 AREAS = [64, 64, 64, 64, 256, 1024, 128, 256, 512, 64, 64, 4096, 2048, 16384, 8192, 65536, 32768]
-CALLS = {"expand": 0, "lookup": 1, "jpeg": 2, "expand_kind": 3}
+CALLS = {"expand": 0, "lookup": 1, "jpeg": 2, "expand_kind": 3, "importer": 4, "matrixlist": 5}
 ORDERS = {"none": 0, "straight": 1, "transposed": 2}
 
 
@@ -86,7 +86,9 @@ def wanted(v):
         return ["reply=" + v["want.reply"], arena(v, "straight"), arena(v, "transposed")]
     if v["call"] == "lookup":
         return [part_of_arena(v)]
-    return ["reply=" + v["want.reply"].split()[0], values(v)]
+    if v["call"] == "jpeg":
+        return ["reply=" + v["want.reply"].split()[0], values(v)]
+    return bytes.fromhex(v["want.text"]).decode().splitlines()
 
 
 def lengths(v):
@@ -99,7 +101,7 @@ def lengths(v):
 
 
 def case(v, name, at):
-    """the words of a case that begins at a byte, then its places, its rows, the samples apart and its name"""
+    """the words of a case that begins at a byte, then its places, its rows, the samples apart, its header and its name"""
     places = [int(x.split(":")[0]) for x in v.get("want.straight.at", "").split(",") if x]
     assert places == [int(x.split(":")[0]) for x in v.get("want.transposed.at", "").split(",") if x]
     rows = []
@@ -111,18 +113,21 @@ def case(v, name, at):
     base, step, modulus, apart = rule(given)
     apart = [x % 2**32 for pair in apart for x in pair]
     whole, numbers, weights = lengths(v)
-    words = 19
+    header = bytes.fromhex(v.get("header", ""))
+    words = 21
     places_at = at + 4 * words
     rows_at = places_at + 4 * len(places)
     apart_at = rows_at + 4 * len(rows)
-    name_at = apart_at + 4 * len(apart)
+    header_at = apart_at + 4 * len(apart)
+    name_at = header_at + len(header)
     head = [
         name_at, len(name), CALLS[v["call"]], int(v.get("samples_len", 0 if given == "none" else whole)), base % 2**32, step, modulus,
         int(v.get("kind", 0)), int(v.get("channel", 0)), ORDERS[v.get("order", "none")], places_at, len(places), rows_at, len(rows),
         int(v.get("rows_len", numbers)), int(v.get("straight_len", weights)), int(v.get("transposed_len", weights)), apart_at, len(apart),
+        header_at, len(header),
     ]
     assert len(head) == words
-    return struct.pack("<%dI" % len(head + places + rows + apart), *(head + places + rows + apart)) + name.encode()
+    return struct.pack("<%dI" % len(head + places + rows + apart), *(head + places + rows + apart)) + header + name.encode()
 
 
 def everywhere(v, places, weight, sum_of_all):

@@ -11,7 +11,7 @@ const MARK: u16 = 0xabcd;
 #[derive(Debug, PartialEq, Clone, Copy)]
 pub enum Read {
     Done(u64),
-    Short(usize, u64),
+    Short(usize, u64, u64),
     Mode(usize, u64),
     Float(usize, u64),
     Other(Reply),
@@ -28,7 +28,7 @@ pub fn ours(bytes: &[u8], bit: u64, kind: usize, rows: &mut [u16]) -> Read {
                 (bit, kind) = (next, at + 1);
                 continue;
             }
-            Reply::Short { kind, bit } => Read::Short(kind, bit),
+            Reply::Short { kind, bit, lacks } => Read::Short(kind, bit, lacks),
             Reply::Mode { kind, bit } => Read::Mode(kind, bit),
             Reply::Float { kind, bit } => Read::Float(kind, bit),
             other => Read::Other(other),
@@ -40,7 +40,7 @@ fn theirs(kind: usize, entries: &[Entry], end: Result<u64, Error>) -> Read {
     let at = kind + entries.len();
     match end {
         Ok(next) => Read::Done(next),
-        Err(Error::Short(bit)) => Read::Short(at, bit),
+        Err(Error::Short(bit, lacks)) => Read::Short(at, bit, lacks),
         Err(Error::Float(bit)) => Read::Float(at, bit),
         Err(Error::ValidationFailed(_)) => Read::Mode(at, standins::last_field()),
     }
@@ -136,7 +136,7 @@ pub fn limits(report: &mut Report, rng: &mut Rng) {
     for (bytes, expected) in [
         (&[0x01u8][..], Read::Done(1)),
         (&[0; 7], Read::Done(52)),
-        (&[0; 6], Read::Short(15, 46)),
+        (&[0; 6], Read::Short(15, 46, 1)),
         (&[0x00, 0x20], Read::Mode(4, 13)),
     ] {
         let got = ours(bytes, 0, 0, &mut [0; ROWS]);

@@ -1,7 +1,7 @@
 //! Stand-ins for what the ported dequant.rs imports: jxl_bitstream, jxl_grid, jxl_modular, jxl_threadpool,
 //! jxl_oxide_common, tracing. None of it is those crates' code. What is the stand-ins' own behaviour:
 //! bits come lowest first; a half float is IEEE 754's with exponent 31 refused; a field past the end is
-//! `Error::Short` and changes nothing; Modular decoding takes its samples from `give` and skips no bit.
+//! `Error::Short` with its first bit and how many of its bits aren't there, and changes nothing; Modular decoding takes its samples from `give` and skips no bit.
 use std::cell::{Cell, RefCell};
 use std::collections::VecDeque;
 use std::rc::Rc;
@@ -38,7 +38,7 @@ pub fn noted() -> Option<f32> {
 
 #[derive(Debug, Clone, Copy, PartialEq)]
 pub enum Error {
-    Short(u64),
+    Short(u64, u64),
     Float(u64),
     ValidationFailed(&'static str),
 }
@@ -63,7 +63,8 @@ impl<'b> Bitstream<'b> {
         let all = self.bytes.len() as u64 * 8;
         match first.checked_add(n) {
             Some(end) if end <= all => self.at = end,
-            _ => return Err(Error::Short(first)),
+            // how many of its bits are not there, counted one by one
+            _ => return Err(Error::Short(first, (0..n).filter(|&i| first.checked_add(i).is_none_or(|bit| bit >= all)).count() as u64)),
         }
         // the eight bytes from the field's first on, zeros past the end: a field has at most 32 bits
         let from = &self.bytes[(first / 8) as usize..];

@@ -21,7 +21,10 @@ static int says(uint64_t a, uint64_t b, uint64_t c) { return reply[0] == a && re
 
 static void reading(void) {
     static const uint8_t zeros[7];
-    check(dequant_read_header(zeros, 6, 0, 0, rows, DEQUANT_ROWS, reply, 3) == DEQUANT_SHORT && says(15, 46, 0), "six zero bytes");
+    check(dequant_read_header(zeros, 6, 0, 0, rows, DEQUANT_ROWS, reply, 3) == DEQUANT_SHORT && says(15, 46, 1), "six zero bytes");
+    check(dequant_read_header(zeros, 0, 0, 0, rows, DEQUANT_ROWS, reply, 3) == DEQUANT_SHORT && says(0, 0, 1), "no bytes");
+    check(dequant_read_header(zeros, 1, 7, 16, rows, DEQUANT_ROWS, reply, 3) == DEQUANT_SHORT && says(16, 7, 2), "a mode at the last bit");
+    check(dequant_read_header(zeros, 1, UINT64_MAX, 5, rows, DEQUANT_ROWS, reply, 3) == DEQUANT_SHORT && says(5, UINT64_MAX, 3), "a start bit of 2^64 - 1");
     check(dequant_read_header(zeros, 7, 0, 0, rows, DEQUANT_ROWS, reply, 3) == DEQUANT_DONE && says(52, 0, 0), "seven zero bytes");
     reply[0] = 5;
     check(dequant_read_header(zeros, 7, 0, 0, rows, DEQUANT_ROWS, reply, 2) == DEQUANT_LENT && says(5, 0, 0), "a reply of two places");

@@ -32,7 +32,10 @@ int main(int argc, char **argv) {
         return 0;
     }
     if (said != DEQUANT_DONE) {
-        printf("refused: reply %u kind %llu bit %llu\n", said, (unsigned long long)reply[0], (unsigned long long)reply[1]);
+        printf("refused: reply %u kind %llu bit %llu", said, (unsigned long long)reply[0], (unsigned long long)reply[1]);
+        if (said == DEQUANT_SHORT)
+            printf(" lacks %llu", (unsigned long long)reply[2]);
+        printf("\n");
         return 1;
     }
     printf("DONE next bit %llu, default %u\n", (unsigned long long)reply[0], rows[126]);

@@ -49,7 +49,7 @@ pub enum Reply {
     /// 1: a lent slice has a wrong length, or kind or channel is out of range. Nothing was changed.
     Lent,
     /// 2: a field runs past the last bit of the header. Rows of earlier kinds are written.
-    Short { /** the kind */ kind: usize, /** first bit of the field */ bit: u64 },
+    Short { /** the kind */ kind: usize, /** first bit of the field */ bit: u64, /** how many bits the field lacks: its width if it starts at or past the end */ lacks: u64 },
     /// 3: the mode is not allowed for the kind. Rows of earlier kinds are written.
     Mode { /** the kind */ kind: usize, /** first bit of the field */ bit: u64 },
     /// 4: a number has exponent 31. Rows of earlier kinds are written.
@@ -77,7 +77,7 @@ impl Reply {
         match number {
             0 => Reply::Done(a),
             1 => Reply::Lent,
-            2 => Reply::Short { kind, bit: b },
+            2 => Reply::Short { kind, bit: b, lacks: c },
             3 => Reply::Mode { kind, bit: b },
             4 => Reply::Float { kind, bit: b },
             5 => Reply::Raw { kind, next: b },

@@ -16,11 +16,26 @@ fn a_header_is_read() {
     let mut rows = [9; ROWS];
     assert_eq!(read_header(&[0; 7], 0, 0, &mut rows), Reply::Done(52));
     assert!(rows.iter().all(|&v| v == 0));
-    assert_eq!(read_header(&[0; 6], 0, 0, &mut rows), Reply::Short { kind: 15, bit: 46 });
+    assert_eq!(read_header(&[0; 6], 0, 0, &mut rows), Reply::Short { kind: 15, bit: 46, lacks: 1 });
     assert_eq!(read_header(&[0x00, 0x20], 0, 0, &mut rows), Reply::Mode { kind: 4, bit: 13 });
     assert_eq!(read_header(&[0x02, 0xc0, 0x07], 0, 0, &mut rows), Reply::Float { kind: 0, bit: 4 });
     assert_eq!(read_header(&[1], 0, 17, &mut rows), Reply::Lent);
     assert_eq!(read_header(&[1], 0, 0, &mut rows[1..]), Reply::Lent);
+}
+
+/// A field that is partly there, one whose first bit is the last, and fields that start at the end or past it.
+#[test]
+fn a_short_header_says_how_much_it_lacks() {
+    let short = |header: &[u8], at, no| match read_header(header, at, no, &mut [0; ROWS]) {
+        Reply::Short { kind, bit, lacks } => (kind, bit, lacks),
+        other => panic!("{other:?}"),
+    };
+    assert_eq!(short(&[], 0, 0), (0, 0, 1));
+    assert_eq!(short(&[0x02], 0, 0), (0, 4, 12));
+    assert_eq!(short(&[0], 7, 16), (16, 7, 2));
+    assert_eq!(short(&[0], 8, 16), (16, 8, 3));
+    assert_eq!(short(&[0], u64::MAX, 0), (0, u64::MAX, 1));
+    assert_eq!(short(&[0], u64::MAX, 5), (5, u64::MAX, 3));
 }
 
 #[test]

@@ -14,7 +14,7 @@ fn said_reading(found: Reading) -> Said
     match found {
         Reading::Done { next } => made(0, next, 0, 0),
         Reading::Lent => made(1, 0, 0, 0),
-        Reading::Short { kind, bit } => made(2, kind as u64, bit, 0),
+        Reading::Short { kind, bit, lacks } => made(2, kind as u64, bit, lacks),
         Reading::Mode { kind, bit } => made(3, kind as u64, bit, 0),
         Reading::Float { kind, bit } => made(4, kind as u64, bit, 0),
         Reading::Raw { kind, next } => made(5, kind as u64, next, 0),

@@ -1,4 +1,4 @@
--- An answer by document 01's number of its reply: DONE names one case of each enum, and RAW one of reading. Assumes nothing.
+-- An answer by document 01's number of its reply: DONE names one case of each enum, and SHORT and RAW one of reading. Assumes nothing.
 use mathlib.Core.Path.{_≡_, refl, ap}
 use mathlib.Core.Bool.{false}
 use mathlib.Core.List.{List, [], _∷_}
@@ -44,7 +44,7 @@ jpeg-done jpeg.None e = absurd (other 10 [] [] e)
 pub read-done : (r : Reading) (q : ℕ) → readReply r ≡ 0 ∷ q ∷ [] → r ≡ reading.Done q
 read-done (reading.Done p) q e = ap (λ (l : List ℕ). reading.Done (getD l 1 0)) e
 read-done reading.Lent q e = absurd (other 0 [] (q ∷ []) e)
-read-done (reading.Short k p) q e = absurd (other 1 (k ∷ p ∷ []) (q ∷ []) e)
+read-done (reading.Short k p l) q e = absurd (other 1 (k ∷ p ∷ l ∷ []) (q ∷ []) e)
 read-done (reading.Mode k p) q e = absurd (other 2 (k ∷ p ∷ []) (q ∷ []) e)
 read-done (reading.Float k p) q e = absurd (other 3 (k ∷ p ∷ []) (q ∷ []) e)
 read-done (reading.Raw k p) q e = absurd (other 4 (k ∷ p ∷ []) (q ∷ []) e)
@@ -53,7 +53,16 @@ read-done (reading.Raw k p) q e = absurd (other 4 (k ∷ p ∷ []) (q ∷ []) e)
 pub read-raw : (r : Reading) (k q : ℕ) → readReply r ≡ 5 ∷ k ∷ q ∷ [] → r ≡ reading.Raw k q
 read-raw (reading.Done p) k q e = absurd (differs 0 5 (p ∷ []) (k ∷ q ∷ []) refl e)
 read-raw reading.Lent k q e = absurd (differs 1 5 [] (k ∷ q ∷ []) refl e)
-read-raw (reading.Short i p) k q e = absurd (differs 2 5 (i ∷ p ∷ []) (k ∷ q ∷ []) refl e)
+read-raw (reading.Short i p l) k q e = absurd (differs 2 5 (i ∷ p ∷ l ∷ []) (k ∷ q ∷ []) refl e)
 read-raw (reading.Mode i p) k q e = absurd (differs 3 5 (i ∷ p ∷ []) (k ∷ q ∷ []) refl e)
 read-raw (reading.Float i p) k q e = absurd (differs 4 5 (i ∷ p ∷ []) (k ∷ q ∷ []) refl e)
 read-raw (reading.Raw i p) k q e = ap (λ (l : List ℕ). reading.Raw (getD l 1 0) (getD l 2 0)) e
+
+-- and with SHORT's kind, bit and how much is lacking
+pub read-short : (r : Reading) (k q l : ℕ) → readReply r ≡ 2 ∷ k ∷ q ∷ l ∷ [] → r ≡ reading.Short k q l
+read-short (reading.Done p) k q l e = absurd (differs 0 2 (p ∷ []) (k ∷ q ∷ l ∷ []) refl e)
+read-short reading.Lent k q l e = absurd (differs 1 2 [] (k ∷ q ∷ l ∷ []) refl e)
+read-short (reading.Short i p m) k q l e = ap (λ (l : List ℕ). reading.Short (getD l 1 0) (getD l 2 0) (getD l 3 0)) e
+read-short (reading.Mode i p) k q l e = absurd (differs 3 2 (i ∷ p ∷ []) (k ∷ q ∷ l ∷ []) refl e)
+read-short (reading.Float i p) k q l e = absurd (differs 4 2 (i ∷ p ∷ []) (k ∷ q ∷ l ∷ []) refl e)
+read-short (reading.Raw i p) k q l e = absurd (differs 5 2 (i ∷ p ∷ []) (k ∷ q ∷ l ∷ []) refl e)

@@ -8,6 +8,7 @@ pub mod Accepts
 pub mod KindLaws
 pub mod Longest
 pub mod LongestReached
+pub mod MoreBits
 pub mod ReadWritten
 pub mod Readable
 pub mod RowRule

@@ -20,7 +20,7 @@ use Rattle.params.specs.Header.{replyOf, Outcome, gives, kindIs, after, kinds, 
 -- the next bit, or 0 after a refusal
 abbrev bitOf : Hand → ℕ
 bitOf (on p s row) = p
-bitOf (short p) = 0
+bitOf (short p l) = 0
 bitOf (mode p) = 0
 bitOf (float p) = 0
 
@@ -33,9 +33,9 @@ number-bits b (on p s row) = go (readBits b p 16) refl
     pick false v q e = omega arith
 
     go : (r : Bits) → readBits b p 16 ≡ r → bitOf (numberIs p s row r) ≤ p + 16
-    go bits.Short e = omega arith
+    go (bits.Short l) e = omega arith
     go (bits.Value v q) e = pick (barred v) v q (value-next b p 16 v q e)
-number-bits b (short p) = omega arith
+number-bits b (short p l) = omega arith
 number-bits b (mode p) = omega arith
 number-bits b (float p) = omega arith
 
@@ -49,10 +49,10 @@ unfolding bandList
 list-bits b i (on p s row) = go (readBits b p 4) refl
   where
     go : (r : Bits) → readBits b p 4 ≡ r → bitOf (listIs b i p s row r) ≤ p + 772
-    go bits.Short e = omega arith
+    go (bits.Short l) e = omega arith
     go (bits.Value v q) e =
         omega (arith, value-next b p 4 v q e, value-lt b p 4 v q e, numbers-bits b (3 * (v + 1)) (on q s (set row i (v + 1))))
-list-bits b i (short p) = omega arith
+list-bits b i (short p l) = omega arith
 list-bits b i (mode p) = omega arith
 list-bits b i (float p) = omega arith
 
@@ -112,14 +112,14 @@ entry-bits b kind p = go (readBits b p 3) refl
     pick false m q a e = omega arith
 
     go : (r : Bits) → readBits b p 3 ≡ r → bitOf (entryIs b kind p r) ≤ p + longest kind
-    go bits.Short e = omega arith
+    go (bits.Short l) e = omega arith
     go (bits.Value m q) e = pick (allowed kind m) m q refl (value-next b p 3 m q e)
 
 -- the next bit of a reading that is done, or 0
 abbrev nextOf : Reading → ℕ
 nextOf (Done p) = p
 nextOf Lent = 0
-nextOf (Short k p) = 0
+nextOf (Short k p l) = 0
 nextOf (Mode k p) = 0
 nextOf (Float k p) = 0
 nextOf (Raw k p) = 0
@@ -130,14 +130,14 @@ kind-bits kind rows (on p s row) = go (eqb (getD row 0 0) 7)
     go : (t : Bool) → nextOf (cond t (Raw kind p) (Done p)) ≤ p
     go true = omega arith
     go false = omega arith
-kind-bits kind rows (short p) = omega arith
+kind-bits kind rows (short p l) = omega arith
 kind-bits kind rows (mode p) = omega arith
 kind-bits kind rows (float p) = omega arith
 
 after-bits : (b : List ℕ) (kind : ℕ) (r : Reading) (rows : List ℕ) → nextOf (after b kind r rows .answer) ≤ nextOf r + longest kind
 after-bits b kind (Done p) rows = omega (arith, kind-bits kind rows (entry b kind p), entry-bits b kind p)
 after-bits b kind Lent rows = omega arith
-after-bits b kind (Short k p) rows = omega arith
+after-bits b kind (Short k p l) rows = omega arith
 after-bits b kind (Mode k p) rows = omega arith
 after-bits b kind (Float k p) rows = omega arith
 after-bits b kind (Raw k p) rows = omega arith
@@ -162,7 +162,7 @@ longest-header b p q rows e = omega (arith, ap nextOf (read-done (readHeader b p
     pick false k e = omega (arith, kinds-bits b 17 0 (gives (Done k) rows))
 
     flag : (r : Bits) → readBits b p 1 ≡ r → nextOf (flagIs b p rows r .answer) ≤ p + 20400
-    flag bits.Short e = omega arith
+    flag (bits.Short l) e = omega arith
     flag (bits.Value v k) e = pick (eqb v 1) k (value-next b p 1 v k e)
 
     go : (t : Bool) → nextOf (cond t (flagIs b p rows (readBits b p 1)) (gives Lent rows) .answer) ≤ p + 20400

@@ -23,13 +23,13 @@ pub record Read (b : List ℕ) (kind p q : ℕ) (row : List ℕ) : Type 0 where
 
 abbrev bitOf : Hand → ℕ
 bitOf (on p s row) = p
-bitOf (short p) = 0
+bitOf (short p l) = 0
 bitOf (mode p) = 0
 bitOf (float p) = 0
 
 abbrev rowIn : Hand → List ℕ
 rowIn (on p s row) = row
-rowIn (short p) = []
+rowIn (short p l) = []
 rowIn (mode p) = []
 rowIn (float p) = []
 
@@ -124,7 +124,7 @@ entry-read b kind p q s row e = go (readBits b p 3) refl e
     pick false m k a r g = let z : _≡_ {A = ℕ} 0 1 = cc in absurd (omega arith)
 
     go : (r : Bits) → readBits b p 3 ≡ r → entryIs b kind p r ≡ on q s row → Read b kind p q row
-    go Short r g = let z : _≡_ {A = ℕ} 0 1 = cc in absurd (omega arith)
+    go (Short l) r g = let z : _≡_ {A = ℕ} 0 1 = cc in absurd (omega arith)
     go (Value m k) r g = pick (allowed kind m) m k refl r g
 
 -- what is spelt is read

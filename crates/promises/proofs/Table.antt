@@ -63,10 +63,10 @@ pub record Refuses (d : ℕ) (z : ℤ) : Type 0 where
 
 -- ---- the table
 pub record Table : Type 0 where
-  -- byte 01: DONE, next bit 1; seven zero bytes: DONE, next bit 52; six: SHORT, kind 15, bit 46; bytes 00 20: MODE, kind 4, bit 13
+  -- byte 01: DONE, next bit 1; seven zero bytes: DONE, next bit 52; six: SHORT, kind 15, bit 46, 1 bit is lacking; bytes 00 20: MODE, kind 4, bit 13
   pub p1 : ReadsTo (1 ∷ []) (0 ∷ 1 ∷ [])
   pub p2 : ReadsTo (replicate 7 0) (0 ∷ 52 ∷ [])
-  pub p3 : ReadsTo (replicate 6 0) (2 ∷ 15 ∷ 46 ∷ [])
+  pub p3 : ReadsTo (replicate 6 0) (2 ∷ 15 ∷ 46 ∷ 1 ∷ [])
   pub p4 : ReadsTo (0 ∷ 32 ∷ []) (3 ∷ 4 ∷ 13 ∷ [])
   -- half 7bff is 65504 = 2047 x 2 ^ 5, 7c00 FLOAT: by itself, and as kind 0's first number, at bit 4; half 0001 is 2 ^ -24
   pub p5 : halfAnswer 0x7bff ≡ Value (fin false 2047 (pos 5))

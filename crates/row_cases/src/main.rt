@@ -1,7 +1,7 @@
-// Replays cases of the calls on rows from standard input and writes what each gives: `read_header`, `write_record`, `read_record` and
-// `quantlist`. All numbers of the input are words: how many cases there are, where each begins, and for a case: where its name is and its
+// Replays cases of the calls on rows from standard input and writes what each gives: `read_header`, `write_record`, `read_record`,
+// `quantlist` and `readheader`. All numbers of the input are words: how many cases there are, where each begins, and for a case: where its name is and its
 // length, the call, how many samples, their rule (base, step, modulus), how many numbers of rows, where those that are not 0 are listed
-// and in how many words, where its text or header is and its length, the buffer's length, the bit and the kind.
+// and in how many words, where its text or header is and its length, the buffer's length, the bit in two words, the low one first, and the kind.
 use libc::STDIN_FILENO;
 use record::Taken;
 use record::Written;
@@ -130,12 +130,16 @@ fn back_case(s: &[u8], at: usize, part: &mut [i32], buffer: &[u8]) {
     read_case(s, at, show::first(buffer, field(s, at, 11)), part);
 }
 
+// The bit that a case starts at, in two words.
+fn start_bit(s: &[u8], at: usize) -> u64 {
+    let low = show::word(show::rest(s, at), 13) as u64;
+    let high = show::word(show::rest(s, at), 14) as u64;
+    high * 4294967296 + low
+}
+
 // Reads a header into rows of abcd.
-fn read_header(header: &[u8], bit: usize, kind: usize, rows: &mut [u16]) {
-    let r = params::read_header(header, bit as u64, kind, rows);
-    show::text(b"reply=");
-    show::reading(r);
-    show::end();
+fn read_header(header: &[u8], bit: u64, kind: usize, rows: &mut [u16]) {
+    show::reply_line(params::read_header(header, bit, kind, rows));
     rows::show_rows(rows);
 }
 
@@ -143,19 +147,24 @@ fn header_case(s: &[u8], at: usize) {
     let mut rows = [0xabcdu16; 2304];
     read_header(
         show::named(s, at, 10),
-        field(s, at, 13),
-        field(s, at, 14),
+        start_bit(s, at),
+        field(s, at, 15),
         rows::first(&mut rows, field(s, at, 7)),
     );
 }
 
 // The calls that lend neither samples nor a buffer.
 fn header_call(s: &[u8], at: usize) {
-    if field(s, at, 2) == 3 {
+    let c = field(s, at, 2);
+    if c == 3 {
         header_case(s, at);
         return;
     }
-    show_record::quantlist(show::named(s, at, 10));
+    if c == 4 {
+        show_record::quantlist(show::named(s, at, 10));
+        return;
+    }
+    show::header(show::named(s, at, 10));
 }
 
 // The call that a case names.

@@ -112,8 +112,26 @@ fn filled_call(s: &[u8], at: usize, samples: &mut [i32]) {
     lent_call(s, at, show::first_i32(samples, field(s, at, 3)));
 }
 
-// The call that a case names. The samples are lent once: a need after a second loan would count them.
-pub(crate) fn call(s: &[u8], at: usize) {
+// The samples are lent once: a need after a second loan would count them.
+fn with_samples(s: &[u8], at: usize) {
     let mut samples = [0i32; 394752];
     filled_call(s, at, &mut samples);
+}
+
+// What a program lists of the case's header.
+fn header_call(s: &[u8], at: usize) {
+    if field(s, at, 2) == 4 {
+        show_set::keys(show::named(s, at, 19));
+    } else {
+        show_set::summaries(show::named(s, at, 19));
+    }
+}
+
+// The call that a case names.
+pub(crate) fn call(s: &[u8], at: usize) {
+    if field(s, at, 2) > 3 {
+        header_call(s, at);
+    } else {
+        with_samples(s, at);
+    }
 }

@@ -11,6 +11,7 @@ ghost use Rattle.show.specs.Refused.{refusedIs};
 
 mod cases;
 mod filled;
+mod headers;
 mod parts;
 mod words;
 
@@ -21,6 +22,8 @@ pub use cases::named;
 pub use cases::rows_listed;
 pub use filled::fill_samples;
 pub use filled::signed;
+pub use headers::header;
+pub use headers::reply_line;
 pub use parts::first;
 pub use parts::first_i32;
 pub use parts::first_u16;
@@ -60,30 +63,6 @@ pub fn line(name: &[u8], n: u64) {
     end();
 }
 
-// The numbers of a reply of two values, as document 01's table has them.
-fn reply(number: u64, kind: usize, bit: u64) {
-    decimal(number);
-    next(kind as u64);
-    next(bit);
-}
-
-// The reply of a reading: document 01's number, and its values.
-pub fn reading(r: Reading) {
-    match r {
-        Reading::Done { next } => done(next),
-        Reading::Lent => decimal(1),
-        Reading::Short { kind, bit } => reply(2, kind, bit),
-        Reading::Mode { kind, bit } => reply(3, kind, bit),
-        Reading::Float { kind, bit } => reply(4, kind, bit),
-        Reading::Raw { kind, next } => reply(5, kind, next),
-    }
-}
-
-fn done(bit: u64) {
-    decimal(0);
-    next(bit);
-}
-
 // The line of a refusal's number.
 pub fn refusal(number: u64) {
     line(b"refused=", number);
@@ -100,7 +79,11 @@ pub fn is_refused(r: Reading) -> bool
     match r {
         Reading::Done { next: _ } => false,
         Reading::Lent => true,
-        Reading::Short { kind: _, bit: _ } => true,
+        Reading::Short {
+            kind: _,
+            bit: _,
+            lacks: _,
+        } => true,
         Reading::Mode { kind: _, bit: _ } => true,
         Reading::Float { kind: _, bit: _ } => true,
         Reading::Raw { kind: _, next: _ } => true,
@@ -112,7 +95,7 @@ pub fn refused(r: Reading) {
     match r {
         Reading::Done { next: _ } => {}
         Reading::Lent => refusal(1),
-        Reading::Short { kind, bit } => refused_at(2, kind, bit),
+        Reading::Short { kind, bit, lacks } => refused_short(kind, bit, lacks),
         Reading::Mode { kind, bit } => refused_at(3, kind, bit),
         Reading::Float { kind, bit } => refused_at(4, kind, bit),
         Reading::Raw { kind, next } => refused_at(5, kind, next),
@@ -123,6 +106,11 @@ fn refused_at(number: u64, no: usize, bit: u64) {
     refusal(number);
     kind(no);
     line(b"bit=", bit);
+}
+
+fn refused_short(no: usize, bit: u64, lacks: u64) {
+    refused_at(2, no, bit);
+    line(b"lacks=", lacks);
 }
 
 fn wide(x: u16) -> u64 {
