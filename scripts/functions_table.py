@@ -2,7 +2,7 @@
 """Writes three tables of docs/THEOREMS.md from the sources, or with `--check` compares them with what stands there.
 
 Of each public function, the product's and the programs' own: the comment above it, its file, the definitions that its contract
-cites with theirs, the theorem that two results which the contract allows coincide, and its two wrong programs, in the words of the
+cites with theirs, the theorem that two results which the contract allows coincide, and its wrong programs, two or more, in the words of the
 edits' lines `# fn CRATE::PATH: what is wrong`. Of each private function that an edit names: what is wrong there.
 In docs/THEOREMS.md a table stands between the lines `<!-- NAME -->` and `<!-- end -->`.
 """
@@ -86,9 +86,10 @@ def tables():
         path, words, contract = told(crate, module, owner, name)
         says = f"{words} {path.relative_to(ROOT)}; {cited(path, contract, files, parameters)}".rstrip("; ")
         seen = "::".join(filter(None, (crate, owner, name)))
-        rows[crate in PROGRAMS].append((f"`{seen}`", says, f"`{named(owner, name)}`", *wrong.get(full, ["", ""])))
+        one, *more = wrong.get(full, [""])
+        rows[crate in PROGRAMS].append((f"`{seen}`", says, f"`{named(owner, name)}`", one, "; ".join(more)))
     hidden = [(f"`{path}`", words) for path in wrong if path not in shown for words in wrong[path]]
-    head = ["function", "its contract", "two results coincide", "wrong program 1", "wrong program 2"]
+    head = ["function", "its contract", "two results coincide", "wrong program 1", "wrong program 2, and more"]
     return {
         "functions": table(head, rows[False]),
         "programs": table(head, rows[True]),

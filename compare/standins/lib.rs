@@ -1,7 +1,8 @@
 //! Stand-ins for what the ported dequant.rs imports: jxl_bitstream, jxl_grid, jxl_modular, jxl_threadpool,
 //! jxl_oxide_common, tracing. None of it is those crates' code. What is the stand-ins' own behaviour:
 //! bits come lowest first; a half float is IEEE 754's with exponent 31 refused; a field past the end is
-//! `Error::Short` with its first bit and how many of its bits aren't there, and changes nothing; Modular decoding takes its samples from `give` and skips no bit.
+//! `Error::Short` with its first bit and how many of its bits aren't there, and changes nothing; Modular
+//! decoding takes its samples from `give` and skips no bit.
 use std::cell::{Cell, RefCell};
 use std::collections::VecDeque;
 use std::rc::Rc;
