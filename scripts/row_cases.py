@@ -1,6 +1,7 @@
 #!/usr/bin/env python3
 """Makes crates/row_cases/stdin and crates/row_cases/stdout from the vectors of tests/vectors with call=read, write_record,
-read_record, quantlist or readheader, and from a set whose kinds are all raw. A vector with reply_len is for the C face alone.
+read_record, quantlist or readheader (of headers that are refused), and from a set whose kinds are all raw. A vector with reply_len
+is for the C face alone.
 
 A vector is a text file of key=value lines: row.K (the rows, each without the zeros at its end), samples (none, const:V or
 lin:A,B,M: sample p is A + p*B mod M), samples_len and rows_len where they aren't the right ones, text (the record to read, hex),
@@ -128,7 +129,9 @@ def wanted(v):
         return told(rows_read(v))
     if v["call"] == "read_record":
         return told(rows_read(v) + [samples_read(v)])
-    return bytes.fromhex(v["want.text"])
+    text = bytes.fromhex(v["want.text"])
+    assert v["call"] == "quantlist" or text.count(b"\n") == 1
+    return text
 
 
 def runs():

@@ -4,6 +4,7 @@
 use mathlib.Core.Path.{_≡_, refl, ap, _∙_, subst⁻¹}
 use mathlib.Core.List.{List, _++_}
 use Prim.Native.Nat.{ℕ, zero, suc, _+_, _-_, _*_, _/_, _%_, _^_, _≤_, _<_, max}
+use native.Mathlib.Nat.{sub-eq-zero-of-le, sub-pos-iff-lt, max-eq-left, max-eq-right}
 use native.Mathlib.Omega.{arith}
 use native.Mathlib.Decide.{decLt}
 use lib.ListN.{length, length-append, List·getD-append}
@@ -38,12 +39,6 @@ field-kept b d p (suc n) h =
     let first : bitAt (b ++ d) p ≡ bitAt b p = ap (λ (x : ℕ). x / 2 ^ (p % 8) % 2) (List·getD-append b d 0 (p / 8) (omega arith)) in
     rw (first, field-kept b d (p + 1) n (omega arith))
 
-sub-none : (l m : ℕ) → l ≤ m → l - m ≡ 0
-sub-none l m h = omega arith
-
-sub-some : (l m : ℕ) → m < l → 0 < l - m
-sub-some l m h = omega arith
-
 -- where more bits are there, so many fewer lack
 fewer : (end later p n l : ℕ) → end ≤ later → lacking end p n ≡ l → lacking later p n ≡ l - (later - max p end)
 fewer end later p n l h e = go (decLt p end)
@@ -55,8 +50,8 @@ fewer end later p n l h e = go (decLt p end)
     outside i = omega arith
 
     go : Dec (p < end) → lacking later p n ≡ l - (later - max p end)
-    go (yes i) = let m : max p end ≡ end = omega arith in rw m (inside (omega arith))
-    go (no i) = let m : max p end ≡ p = omega arith in rw m (outside (omega arith))
+    go (yes i) = rw (max-eq-right {n = p} {m = end} (omega arith)) (inside (omega arith))
+    go (no i) = rw (max-eq-left {n = p} {m = end} (omega arith)) (outside (omega arith))
 
 module _ (b d : List ℕ) (p n : ℕ) where
   longer : bitCount b ≤ bitCount (b ++ d)
@@ -74,10 +69,10 @@ module _ (b d : List ℕ) (p n : ℕ) where
     read-fewer h =
         let (is, some) = up-to-short b (bitCount b) p n l e in
         let left = fewer (bitCount b) (bitCount (b ++ d)) p n l longer is in
-        up-to-past (b ++ d) (bitCount (b ++ d)) p n (subst⁻¹ (λ (m : ℕ). 0 < m) left (sub-some l (bitCount (b ++ d) - max p (bitCount b)) h)) ∙ ap Short left
+        up-to-past (b ++ d) (bitCount (b ++ d)) p n (subst⁻¹ (λ (m : ℕ). 0 < m) left (sub-pos-iff-lt .1 h)) ∙ ap Short left
 
     pub read-filled : l ≤ bitCount (b ++ d) - max p (bitCount b) → readBits (b ++ d) p n ≡ Value (field (b ++ d) p n) (p + n)
     unfolding readBits
     read-filled h =
         let (is, some) = up-to-short b (bitCount b) p n l e in
-        up-to-in (b ++ d) (bitCount (b ++ d)) p n (fewer (bitCount b) (bitCount (b ++ d)) p n l longer is ∙ sub-none l (bitCount (b ++ d) - max p (bitCount b)) h)
+        up-to-in (b ++ d) (bitCount (b ++ d)) p n (fewer (bitCount b) (bitCount (b ++ d)) p n l longer is ∙ sub-eq-zero-of-le h)

@@ -1,5 +1,5 @@
 // Replays cases of the calls on rows from standard input and writes what each gives: `read_header`, `write_record`, `read_record`,
-// `quantlist` and `readheader`. All numbers of the input are words: how many cases there are, where each begins, and for a case: where its name is and its
+// `quantlist` and, of a header that is refused, `readheader`. All numbers of the input are words: how many cases there are, where each begins, and for a case: where its name is and its
 // length, the call, how many samples, their rule (base, step, modulus), how many numbers of rows, where those that are not 0 are listed
 // and in how many words, where its text or header is and its length, the buffer's length, the bit in two words, the low one first, and the kind.
 use libc::STDIN_FILENO;
@@ -153,6 +153,12 @@ fn header_case(s: &[u8], at: usize) {
     );
 }
 
+// What `readheader` writes of a header that is refused: the reply alone.
+fn reply_case(header: &[u8]) {
+    let mut rows = [0u16; 2176];
+    show::reply_line(params::read_header(header, 0, 0, &mut rows));
+}
+
 // The calls that lend neither samples nor a buffer.
 fn header_call(s: &[u8], at: usize) {
     let c = field(s, at, 2);
@@ -164,7 +170,7 @@ fn header_call(s: &[u8], at: usize) {
         show_record::quantlist(show::named(s, at, 10));
         return;
     }
-    show::header(show::named(s, at, 10));
+    reply_case(show::named(s, at, 10));
 }
 
 // The call that a case names.

@@ -1,4 +1,4 @@
--- Which readings are refused, and which leave rows to show. Definitions only.
+-- Which readings are refused. Definitions only.
 use mathlib.Core.Bool.{Bool, true, false}
 use Rattle.params.specs.declared.read.Reading.{Reading}
 use Rattle.params.specs.declared.read.Reading.the-variants.{Done, Lent, Short, Mode, Float, Raw}
@@ -11,12 +11,3 @@ refusedIs (Short kind bit lacks) = true
 refusedIs (Mode kind bit) = true
 refusedIs (Float kind bit) = true
 refusedIs (Raw kind next) = true
-
--- rows were written to the end of the header, or to a raw kind
-abbrev pub hasRows : Reading → Bool
-hasRows (Done next) = true
-hasRows Lent = false
-hasRows (Short kind bit lacks) = false
-hasRows (Mode kind bit) = false
-hasRows (Float kind bit) = false
-hasRows (Raw kind next) = true

@@ -11,7 +11,6 @@ ghost use Rattle.show.specs.Refused.{refusedIs};
 
 mod cases;
 mod filled;
-mod headers;
 mod parts;
 mod words;
 
@@ -22,8 +21,6 @@ pub use cases::named;
 pub use cases::rows_listed;
 pub use filled::fill_samples;
 pub use filled::signed;
-pub use headers::header;
-pub use headers::reply_line;
 pub use parts::first;
 pub use parts::first_i32;
 pub use parts::first_u16;
@@ -60,6 +57,42 @@ pub fn next(n: u64) {
 pub fn line(name: &[u8], n: u64) {
     text(name);
     decimal(n);
+    end();
+}
+
+// The numbers of a reply of two values, as document 01's table has them.
+fn reply(number: u64, kind: usize, bit: u64) {
+    decimal(number);
+    next(kind as u64);
+    next(bit);
+}
+
+fn short_reply(kind: usize, bit: u64, lacks: u64) {
+    reply(2, kind, bit);
+    next(lacks);
+}
+
+// The reply of a reading: document 01's number, and its values.
+fn reading(r: Reading) {
+    match r {
+        Reading::Done { next } => done(next),
+        Reading::Lent => decimal(1),
+        Reading::Short { kind, bit, lacks } => short_reply(kind, bit, lacks),
+        Reading::Mode { kind, bit } => reply(3, kind, bit),
+        Reading::Float { kind, bit } => reply(4, kind, bit),
+        Reading::Raw { kind, next } => reply(5, kind, next),
+    }
+}
+
+fn done(bit: u64) {
+    decimal(0);
+    next(bit);
+}
+
+// The line of a reading's reply.
+pub fn reply_line(r: Reading) {
+    text(b"reply=");
+    reading(r);
     end();
 }
 
