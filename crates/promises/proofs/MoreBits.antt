@@ -116,17 +116,19 @@ kinds-behind c q (suc n) kind o t = kinds-behind c q n (kind + 1) (after c kind 
 
 -- ---- two strings side by side: every field that is read in b is read in c
 module _ (b c : List ℕ) (same : (p n v q : ℕ) → readBits b p n ≡ bits.Value v q → readBits c p n ≡ bits.Value v q) where
+  -- nothing was short
   abbrev There : Hand → Type 0
   There (on p s row) = Unit {0}
   There (short p l) = ⊥
   There (mode p) = Unit {0}
   There (float p) = Unit {0}
 
-  -- Nothing was short in b, and c has the same. Or a field is short in b, and in c it goes on by what the field is there.
+  -- a row behind a field at bit q, by what the field is: short, or read
   abbrev Then : ℕ → Hand → Bits → Type 0
   Then q h (bits.Short m) = h ≡ short q m
   Then q h (bits.Value v k) = Past q h
 
+  -- Nothing was short in b, and c has the same. Or a field is short in b, and c goes on from it by what it is there.
   data Goes : Hand → Hand → Type 0 where
     alike : (h : Hand) → There h → Goes h h
     stops : (q l : ℕ) (f : Field) (h : Hand) → readBits b q (widthOf f) ≡ bits.Short l → Then q h (readBits c q (widthOf f)) → Goes (short q l) h
@@ -205,6 +207,7 @@ module _ (b c : List ℕ) (same : (p n v q : ℕ) → readBits b p n ≡ bits.Va
   Gives kind q rows o (bits.Short m) = o ≡ gives (reading.Short kind q m) rows
   Gives kind q rows o (bits.Value v k) = Behind q (o .answer)
 
+  -- nothing was short
   abbrev Whole : Reading → Type 0
   Whole (reading.Done p) = Unit {0}
   Whole reading.Lent = Unit {0}
