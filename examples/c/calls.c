@@ -27,7 +27,7 @@ static void reading(void) {
     check(dequant_read_header(zeros, 1, UINT64_MAX, 5, rows, DEQUANT_ROWS, reply, 3) == DEQUANT_SHORT && says(5, UINT64_MAX, 3), "a start bit of 2^64 - 1");
     check(dequant_read_header(zeros, 7, 0, 0, rows, DEQUANT_ROWS, reply, 3) == DEQUANT_DONE && says(52, 0, 0), "seven zero bytes");
     reply[0] = 5;
-    check(dequant_read_header(zeros, 7, 0, 0, rows, DEQUANT_ROWS, reply, 2) == DEQUANT_LENT && says(5, 0, 0), "a reply of two places");
+    check(dequant_read_header(zeros, 6, 0, 0, rows, DEQUANT_ROWS, reply, 2) == DEQUANT_LENT && says(5, 0, 0), "a reply of two places");
     rows[0] = 7; /* kind 0 raw, with the denominator of JPEG values */
     rows[3] = 0x1004;
     for (int i = 0; i < 192; i++)
