@@ -28,6 +28,7 @@ pub(crate) fn said_expanded(found: Expanded) -> Said
             channel,
             place,
         } => made(8, kind as u64, channel as u64, place as u64),
+        Expanded::Denom { kind } => made(12, kind as u64, 0, 0),
     }
 }
 

@@ -13,7 +13,7 @@ fn three(number: u64, kind: usize, channel: usize, last: usize) {
     show::next(last as u64);
 }
 
-// The reply of an expansion: document 01's number, and its values.
+// The reply of an expansion: its number, and its values.
 fn reply(r: Expanded) {
     match r {
         Expanded::Done => show::decimal(0),
@@ -29,6 +29,7 @@ fn reply(r: Expanded) {
             channel,
             place,
         } => three(8, kind, channel, place),
+        Expanded::Denom { kind } => one(12, kind),
     }
 }
 

@@ -44,6 +44,7 @@ fn is_done(r: Expanded) -> bool {
             channel,
             place,
         } => refused_weight(kind, channel, place),
+        Expanded::Denom { kind } => refused_kind(12, kind),
     }
     false
 }

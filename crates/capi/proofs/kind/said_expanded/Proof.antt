@@ -42,6 +42,12 @@ enum-known-found-3 c = search needs
 made-requires-5 : tie.Need-made-requires-5
 made-requires-5 c κs = search needs
 
+enum-known-found-4 : tie.Need-enum-known-found-4
+enum-known-found-4 c = search needs
+
+made-requires-6 : tie.Need-made-requires-6
+made-requires-6 c κs = search needs
+
 returns : tie.Need-returns
 returns c = c .made .ensures ∙ ap said (sym (c .before .enum-told .given .1))
 
@@ -57,6 +63,9 @@ returns-4 c = c .made4 .ensures ∙ ap said (sym (c .before .before .found2 .giv
 returns-5 : tie.Need-returns-5
 returns-5 c = c .made5 .ensures ∙ ap said (sym (c .before .before .found3 .given .1))
 
+returns-6 : tie.Need-returns-6
+returns-6 c = c .made6 .ensures ∙ ap said (sym (c .before .before .found4 .given .1))
+
 pub said-expanded-spec : {M : Type 1} → statement M
 said-expanded-spec =
     tie.close
@@ -71,8 +80,11 @@ said-expanded-spec =
     made-requires-4
     enum-known-found-3
     made-requires-5
+    enum-known-found-4
+    made-requires-6
     returns
     returns-2
     returns-3
     returns-4
-    returns-5)
+    returns-5
+    returns-6)
