@@ -6,7 +6,7 @@ use Prim.Native.Nat.{ℕ, zero, suc, _+_, _*_, _/_, _%_, _^_, _≤_, _<_}
 use mathlib.Core.Logic.{⊎-elim}
 use native.Mathlib.Nat.{zero-mul, mul-one, mul-pos, lt-irrefl, eq-zero-or-pos}
 use native.Mathlib.Omega.{arith}
-use borrow.Author.Tests.{eq-eqb, ne-eqb, leb-false, lt-ltb, le-ltb}
+use borrow.Author.Tests.{eq-eqb, ne-eqb, leb-false, lt-leb, lt-ltb, le-ltb}
 use lib.Dec.{leb, ltb, eqb, lit<}
 use lib.IntN.{ℤ, pos}
 use lib.ListN.{getD}
@@ -73,6 +73,10 @@ odd-sign h n = sym (odd-is h ∙ go (leb 32768 h) refl)
     go : (t : Bool) → leb 32768 h ≡ t → (t || eqb (sizeIs (h / 1024 % 32) (h % 1024)) 0) ≡ t
     go true e = refl
     go false e = ne-eqb (sizeIs (h / 1024 % 32) (h % 1024)) 0 (none (leb-false 32768 h e))
+
+-- so none above 0000 and below 8000
+pub not-odd : (h : ℕ) → 0 < h → h < 32768 → oddDenominator h ≡ false
+not-odd h p l = sym (odd-sign h (λ z. lt-irrefl 0 (subst (λ (x : ℕ). 0 < x) z p))) ∙ lt-leb 32768 h l
 
 -- ---- a row
 pub plain-row : (row : List ℕ) → (getD row 0 0 ≡ 7 → ⊥) → oddRow row ≡ false

@@ -15,10 +15,10 @@ use Rattle.params.specs.Allowed.{rowAt, rowFault}
 use Rattle.matrix.specs.Mirror.{mirror}
 use Rattle.matrix.specs.Weight.{weightsOf}
 use Rattle.matrix.specs.Expanded.{replyOf, kindAnswer, expandAnswer, leaves}
-use Rattle.matrix.specs.declared.Expanded.the-variants.{Lent, Row}
+use Rattle.matrix.specs.declared.Expanded.the-variants.{Lent, Row, Denom}
 use Rattle.promises.proofs.ByNumber.{other, done-only}
 use Rattle.promises.proofs.Places.{both}
-use Rattle.dequant.specs.Set.{straightOf, transposedOf, straightArena, transposedArena, setLent, kindsAnswer, expandSet}
+use Rattle.dequant.specs.Set.{straightOf, transposedOf, straightArena, transposedArena, setLent, denomFault, kindsAnswer, expandSet}
 use Rattle.dequant.specs.Views.{Fit}
 use Rattle.dequant.proofs.Lent.{fits}
 use Rattle.dequant.proofs.Kindwise.{part-length, handed, straight-length, transposed-length}
@@ -37,12 +37,14 @@ each-done rows zs (suc n) e k h =
 
 pub accepted : (rows : List ℕ) (zs : List ℤ) (s t : ℕ) → replyOf (expandSet rows zs s t) ≡ 0 ∷ [] → Accepted rows zs s t
 unfolding expandSet
-accepted rows zs s t = go (setLent rows (length zs) s t) (ltb (rowFault rows) 17) refl refl
+accepted rows zs s t = go (setLent rows (length zs) s t) (ltb (rowFault rows) 17) (ltb (denomFault rows) 17) refl refl refl
   where
-    go : (a b : Bool) → setLent rows (length zs) s t ≡ a → ltb (rowFault rows) 17 ≡ b → replyOf (cond a (cond b (Row (rowFault rows)) (kindsAnswer rows zs 17)) Lent) ≡ 0 ∷ [] → Accepted rows zs s t
-    go true true p q e = absurd (other 5 (rowFault rows ∷ []) [] e)
-    go true false p q e = record { fit = fits rows (length zs) s t p (ltb-false (rowFault rows) 17 q); each = each-done rows zs 17 e }
-    go false b p q e = absurd (other 0 [] [] e)
+    go : (a b c : Bool) → setLent rows (length zs) s t ≡ a → ltb (rowFault rows) 17 ≡ b → ltb (denomFault rows) 17 ≡ c
+        → replyOf (cond a (cond b (Row (rowFault rows)) (cond c (Denom (denomFault rows)) (kindsAnswer rows zs 17))) Lent) ≡ 0 ∷ [] → Accepted rows zs s t
+    go true true c p q r e = absurd (other 5 (rowFault rows ∷ []) [] e)
+    go true false true p q r e = absurd (other 11 (denomFault rows ∷ []) [] e)
+    go true false false p q r e = record { fit = fits rows (length zs) s t p (ltb-false (rowFault rows) 17 q) (ltb-false (denomFault rows) 17 r); each = each-done rows zs 17 e }
+    go false b c p q r e = absurd (other 0 [] [] e)
 
 -- ---- one kind of it, by itself
 module _ (rows : List ℕ) (zs : List ℤ) (s t : List Float) (ok : replyOf (expandSet rows zs (length s) (length t)) ≡ 0 ∷ []) (k : ℕ) (h : k < 17) where

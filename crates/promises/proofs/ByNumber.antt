@@ -1,4 +1,4 @@
--- An answer by document 01's number of its reply: DONE names one case of each enum, and SHORT and RAW one of reading. Assumes nothing.
+-- An answer by the number of its reply: DONE names one case of each enum, SHORT and RAW one of reading, and DENOM one of expanding. Assumes nothing.
 use mathlib.Core.Path.{_≡_, refl, ap}
 use mathlib.Core.Bool.{false}
 use mathlib.Core.List.{List, [], _∷_}
@@ -11,7 +11,7 @@ use Rattle.params.specs.declared.read.Reading.{Reading}
 use Rattle.params.specs.declared.read.Reading.the-variants as reading
 use Rattle.params.specs.Header.{replyOf as readReply}
 use Rattle.matrix.specs.declared.Expanded.{Expanded}
-use Rattle.matrix.specs.declared.Expanded.the-variants.{Done, Lent, Row, Band, Weight}
+use Rattle.matrix.specs.declared.Expanded.the-variants.{Done, Lent, Row, Band, Weight, Denom}
 use Rattle.matrix.specs.Expanded.{replyOf}
 use Rattle.dequant.specs.declared.jpeg.Jpeg.{Jpeg}
 use Rattle.dequant.specs.declared.jpeg.Jpeg.the-variants as jpeg
@@ -32,6 +32,16 @@ done-only Lent e = absurd (other 0 [] [] e)
 done-only (Row k) e = absurd (other 5 (k ∷ []) [] e)
 done-only (Band k c i) e = absurd (other 6 (k ∷ c ∷ i ∷ []) [] e)
 done-only (Weight k c p) e = absurd (other 7 (k ∷ c ∷ p ∷ []) [] e)
+done-only (Denom k) e = absurd (other 11 (k ∷ []) [] e)
+
+-- and with DENOM's kind
+pub denom-only : (a : Expanded) (k : ℕ) → replyOf a ≡ 12 ∷ k ∷ [] → a ≡ Denom k
+denom-only Done k e = absurd (differs 0 12 [] (k ∷ []) refl e)
+denom-only Lent k e = absurd (differs 1 12 [] (k ∷ []) refl e)
+denom-only (Row i) k e = absurd (differs 6 12 (i ∷ []) (k ∷ []) refl e)
+denom-only (Band i c b) k e = absurd (differs 7 12 (i ∷ c ∷ b ∷ []) (k ∷ []) refl e)
+denom-only (Weight i c p) k e = absurd (differs 8 12 (i ∷ c ∷ p ∷ []) (k ∷ []) refl e)
+denom-only (Denom i) k e = ap (λ (l : List ℕ). Denom (getD l 1 0)) e
 
 -- of a call for JPEG values
 pub jpeg-done : (r : Jpeg) → jpegNumbers r ≡ 0 ∷ [] → r ≡ jpeg.Done

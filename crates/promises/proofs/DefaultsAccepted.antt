@@ -20,7 +20,7 @@ use Rattle.bands.specs.Bands.{atOf, bandAt, multOf}
 use Rattle.bands.proofs.TableLaws.{getD-tab}
 use Rattle.bands.proofs.WholeUnits.{whole-number, plain}
 use Rattle.bands.proofs.Ranged.{Banded}
-use Rattle.matrix.specs.Raw.{weightOf, refused}
+use Rattle.matrix.specs.Raw.{oddDenominator, oddRow, weightOf, refused}
 use Rattle.matrix.specs.Defaults.{defaultMode}
 use Rattle.matrix.specs.Numbers.{each, readNumbers, defaultNumbers, defaultValue, numbersOf, numberOf, count, begins, bandNumber}
 use Rattle.transform.specs.Kinds.{placesOf, startOf, part}
@@ -32,6 +32,7 @@ use Rattle.matrix.specs.declared.numbers.Numbers.{Numbers}
 use Rattle.matrix.specs.Expanded.{replyOf, kindAnswer, expandAnswer}
 use Rattle.matrix.specs.Views.{Shaped}
 use Rattle.matrix.proofs.Lending.{by-samples}
+use Rattle.matrix.proofs.OddLaws.{plain-row, raw-row}
 use Rattle.matrix.proofs.Meaning.{default-shaped}
 use Rattle.dequant.specs.Set.{setLent, expandSet}
 use Rattle.dequant.proofs.Lent.{rows-fine, by-samples as set-by-samples}
@@ -206,6 +207,10 @@ default-numbers : (row : List ℕ) (k : ℕ) → getD row 0 0 ≡ 0 → numbersO
 unfolding numbersOf
 default-numbers row k e = ap (λ (m : ℕ). cond (eqb m 0) (defaultNumbers k) (readNumbers row)) e
 
+-- a row of mode 0 has no denominator
+not-raw : (row : List ℕ) → getD row 0 0 ≡ 0 → oddRow row ≡ false
+not-raw row e = plain-row row (λ z. omega (arith, e))
+
 -- a row of mode 0: BAND and WEIGHT let every kind's default pass, whatever samples are lent
 pub default-accepts : (k : ℕ) (row : List ℕ) (zs : List ℤ) → k < 17 → getD row 0 0 ≡ 0 → replyOf (kindAnswer row zs k) ≡ 0 ∷ []
 default-accepts k row zs h e =
@@ -215,22 +220,28 @@ default-accepts k row zs h e =
 pub default-done : (k : ℕ) → k < 17 → replyOf (expandAnswer k zeroRow [] (placesOf k) (placesOf k)) ≡ 0 ∷ []
 default-done k h =
     accepts k zeroRow [] (placesOf k) (placesOf k) (sym (by-samples k zeroRow 0 (placesOf k) (placesOf k) (placesOf k) refl true (le-of-suc-le-suc h) refl refl refl (sym (always (eqb 0 (placesOf k))))))
-    (sym (allowed-entry k zeroRow (le-of-suc-le-suc h) (zero-entry k h))) (default-accepts k zeroRow [] h refl)
+    (sym (allowed-entry k zeroRow (le-of-suc-le-suc h) (zero-entry k h))) (not-raw zeroRow refl) (default-accepts k zeroRow [] h refl)
   where
     always : (b : Bool) → (b || true) ≡ true
     always true = refl
     always false = refl
 
 -- ---- a set
--- a set that passes LENT and ROW is accepted where each kind is of mode 0, or raw with no sample times its denominator refused
-pub mixed-set : (rows : List ℕ) (zs : List ℤ) (s t : ℕ) → setLent rows (length zs) s t ≡ true → checkReply (checkRows rows) ≡ 0 ∷ []
-    → ((k : ℕ) → k < 17 → (modeAt rows k ≡ 0) ⊎ ((modeAt rows k ≡ 7) × ((i : ℕ) → i < placesOf k → refused (weightOf (half (getD (rowAt rows k) 3 0)) (getD zs (startOf k + i) (pos 0))) ≡ false)))
+-- a raw kind of a set whose denominator is above zero, and no sample of it times the denominator is refused
+pub record RawFine (rows : List ℕ) (zs : List ℤ) (k : ℕ) : Type 0 where
+  pub raw : modeAt rows k ≡ 7
+  pub above : oddDenominator (getD (rowAt rows k) 3 0) ≡ false
+  pub fine : (i : ℕ) → i < placesOf k → refused (weightOf (half (getD (rowAt rows k) 3 0)) (getD zs (startOf k + i) (pos 0))) ≡ false
+
+-- a set that passes LENT and ROW is accepted where each kind is of mode 0 or such a raw one
+pub mixed-set : (rows : List ℕ) (zs : List ℤ) (s t : ℕ) → setLent rows (length zs) s t ≡ true → checkReply (checkRows rows) ≡ 0 ∷ [] → ((k : ℕ) → k < 17 → (modeAt rows k ≡ 0) ⊎ RawFine rows zs k)
     → replyOf (expandSet rows zs s t) ≡ 0 ∷ []
 mixed-set rows zs s t lent ok f =
     set-accepts rows zs s t lent ok
+    (λ k h. ⊎-elim (λ m. not-raw (rowAt rows k) (mode-at rows k ∙ m)) (λ r. raw-row (rowAt rows k) (mode-at rows k ∙ r .raw) ∙ r .above) (f k h))
     (λ k h. ⊎-elim (λ m. default-accepts k (rowAt rows k) (part k zs) h (mode-at rows k ∙ m))
-    (λ r. raw-kind-passes k (rowAt rows k) (part k zs) (rows-fine rows (done-fault rows ok .1) k h) (mode-at rows k ∙ r .0)
-    (λ i g. ap (λ (z : ℤ). refused (weightOf (half (getD (rowAt rows k) 3 0)) z)) (part-get k i zs (pos 0) g) ∙ r .1 i g)) (f k h))
+    (λ r. raw-kind-passes k (rowAt rows k) (part k zs) (rows-fine rows (done-fault rows ok .1) k h) (mode-at rows k ∙ r .raw)
+    (λ i g. ap (λ (z : ℤ). refused (weightOf (half (getD (rowAt rows k) 3 0)) z)) (part-get k i zs (pos 0) g) ∙ r .fine i g)) (f k h))
 
 -- so is any set of rows of mode 0, whatever samples it is lent
 pub default-set : (rows : List ℕ) (zs : List ℤ) (s t : ℕ) → setLent rows (length zs) s t ≡ true → checkReply (checkRows rows) ≡ 0 ∷ [] → ((k : ℕ) → k < 17 → modeAt rows k ≡ 0)

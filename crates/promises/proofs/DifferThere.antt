@@ -7,7 +7,7 @@ use mathlib.Core.List.{List}
 use Prim.Native.Nat.{ℕ, _+_, _≤_, _<_}
 use native.Mathlib.Decide.{ℕ-discrete}
 use native.Mathlib.Omega.{arith}
-use lib.Dec.{lit≤}
+use lib.Dec.{lit≤, lit<}
 use lib.IntN.{ℤ, pos, natAbs}
 use lib.ListN.{length, getD, set, replicate, length-set, length-replicate, getD-replicate}
 use lib.Seq.{getD-set-same, getD-set-other}
@@ -17,6 +17,7 @@ use Rattle.bitstream.specs.Half.{half}
 use Rattle.matrix.specs.Mirror.{straightPlace, transposedPlace}
 use Rattle.matrix.specs.Raw.{weightOf, refused}
 use Rattle.matrix.specs.Expanded.{replyOf}
+use Rattle.matrix.proofs.OddLaws.{not-odd}
 use Rattle.dequant.specs.Set.{straightArena, transposedArena, expandSet}
 use Rattle.dequant.proofs.Kindwise.{mode-at}
 use Rattle.promises.proofs.NumbersToHold.{p12}
@@ -51,7 +52,7 @@ near-small z = ⊎-elim (λ e. subst⁻¹ (λ (z : ℤ). natAbs z ≤ 65535) e (
 near-set : (k : ℕ) → k < 17 → (zs : List ℤ) → length zs ≡ 394752 → ((i : ℕ) → i < 394752 → Near (getD zs i (pos 0))) → (s t : List Float) → length s ≡ 394752 → length t ≡ 394752 → RawSet k (rawAll 0x1004) zs s t
 near-set k h zs l near s t ls lt = record {
   expanded = ap (λ (n : ℕ). replyOf (expandSet (rawAll 0x1004) zs n (length t))) ls ∙ ap (λ (n : ℕ). replyOf (expandSet (rawAll 0x1004) zs 394752 n)) lt
-      ∙ all-done 0x1004 refl zs l (λ i g. near-fine (getD zs i (pos 0)) (near i g));
+      ∙ all-done 0x1004 refl (not-odd 0x1004 (lit< tt) (lit< tt)) zs l (λ i g. near-fine (getD zs i (pos 0)) (near i g));
   raw = sym (mode-at (rawAll 0x1004) k) ∙ ap (λ (r : List ℕ). getD r 0 0) (all-rows 0x1004 refl k h);
   small = λ p g. near-small (getD zs (startOf k + p) (pos 0)) (near (startOf k + p) (in-arena k p g));
 }

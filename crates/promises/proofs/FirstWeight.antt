@@ -16,20 +16,21 @@ use Rattle.matrix.specs.declared.Expanded.the-variants.{Done, Weight}
 use Rattle.transform.proofs.FirstLaws.{before-none}
 use Rattle.matrix.specs.Mirror.{passing}
 use Rattle.matrix.proofs.Passed.{stops as at-first}
-use Rattle.matrix.specs.Raw.{weightOf, refused}
+use Rattle.matrix.specs.Raw.{oddDenominator, weightOf, refused}
 use Rattle.matrix.specs.Weight.{weightsOf}
 use Rattle.matrix.specs.Expanded.{replyOf, weightAnswer, kindAnswer, expandAnswer}
 use Rattle.matrix.proofs.RowFacts.{facts}
+use Rattle.matrix.proofs.OddLaws.{raw-row}
 use Rattle.matrix.proofs.Said.{says-kind, raw-answer}
 use Rattle.dequant.specs.Set.{straightOf, straightArena, setLent, kindsAnswer, expandSet}
-use Rattle.dequant.proofs.Lent.{rows-fine, says-kinds}
+use Rattle.dequant.proofs.Lent.{rows-fine, no-odd, says-kinds}
 use Rattle.dequant.proofs.Kindwise.{mode-at, straight-length, stops-answer}
 use Rattle.record.proofs.SetStores.{row-first}
 use Rattle.promises.proofs.Places.{weights-length}
 use Rattle.promises.proofs.RawPlaces.{raw-straight}
 use Rattle.promises.proofs.Arena.{part-get, arena-at}
 use Rattle.promises.proofs.RowsChecked.{done-fault}
-use Rattle.promises.proofs.Accepts.{lent-alone}
+use Rattle.promises.proofs.Accepts.{lent-alone, Above}
 use Rattle.promises.proofs.RowRule.{rawRow}
 use Rattle.promises.proofs.RawOnes.{raw-allowed}
 
@@ -77,21 +78,23 @@ module _ (rows : List ℕ) (zs : List ℤ) (d : ℕ) (z : ℤ) (b : Begins rows 
   unfolding startOf
   set-first = arena-at (straightOf rows zs) (straight-length rows zs) 0 0 (lit< tt) some-places ∙ place-first (rowAt rows 0) (part 0 zs) d z own-mode own-denominator own-first
 
-  -- where that is refused and LENT and ROW pass, the reply is WEIGHT with kind 0, channel 0, place 0
-  pub set-refused : (s t : ℕ) → setLent rows (length zs) s t ≡ true → checkReply (checkRows rows) ≡ 0 ∷ [] → refused (weightOf (half d) z) ≡ true → replyOf (expandSet rows zs s t) ≡ 8 ∷ 0 ∷ 0 ∷ 0 ∷ []
+  -- where that is refused and LENT, ROW and DENOM pass, the reply is WEIGHT with kind 0, channel 0, place 0
+  pub set-refused : (s t : ℕ) → setLent rows (length zs) s t ≡ true → checkReply (checkRows rows) ≡ 0 ∷ [] → Above rows → refused (weightOf (half d) z) ≡ true
+      → replyOf (expandSet rows zs s t) ≡ 8 ∷ 0 ∷ 0 ∷ 0 ∷ []
   unfolding kindsAnswer
-  set-refused s t lent checked e =
+  set-refused s t lent checked above e =
       let fault = done-fault rows checked .1 in
       sym (ap replyOf (stops-answer rows zs 0 (Weight 0 0 0) refl (refuses (rowAt rows 0) (part 0 zs) d z own-mode own-denominator own-first (rows-fine rows fault 0 (lit< tt)) e) refl (lit< tt)
-      ∙ says-kinds rows zs s t lent fault))
+      ∙ says-kinds rows zs s t lent fault (no-odd rows above)))
 
 -- ---- by itself
--- a raw row of kind 0 that passes ROW, with denominator d, and 192 samples of which the first is z
+-- a raw row of kind 0 that passes ROW and DENOM, with denominator d, and 192 samples of which the first is z
 pub record Raw (row : List ℕ) (zs : List ℤ) (d : ℕ) (z : ℤ) : Type 0 where
   pub slots : length row ≡ 128
   pub fine : rowAllowed 0 row ≡ true
   pub raw : getD row 0 0 ≡ 7
   pub denominator : getD row 3 0 ≡ d
+  pub above : oddDenominator d ≡ false
   pub samples : length zs ≡ 192
   pub first : getD zs 0 (pos 0) ≡ z
 
@@ -103,15 +106,16 @@ module _ (row : List ℕ) (zs : List ℤ) (d : ℕ) (z : ℤ) (r : Raw row zs d 
   -- where it is refused, the reply is WEIGHT with kind 0, channel 0, place 0
   pub first-refused : refused (weightOf (half d) z) ≡ true → replyOf (expandAnswer 0 row zs 192 192) ≡ 8 ∷ 0 ∷ 0 ∷ 0 ∷ []
   unfolding placesOf
-  first-refused e = sym (ap replyOf (refuses row zs d z (r .raw) (r .denominator) (r .first) (r .fine) e ∙ says-kind 0 row zs 192 192 (lent-alone 0 row zs (lit< tt) (r .slots) (r .samples)) (r .fine)))
+  first-refused e = sym (ap replyOf (refuses row zs d z (r .raw) (r .denominator) (r .first) (r .fine) e ∙ says-kind 0 row zs 192 192 (lent-alone 0 row zs (lit< tt) (r .slots) (r .samples)) (r .fine) (raw-row row (r .raw) ∙ ap oddDenominator (r .denominator) ∙ r .above)))
 
--- there are such rows: for every denominator that reading lets pass, every first sample and every further 191
-pub raw-there : (d : ℕ) (z : ℤ) (zs : List ℤ) → barred d ≡ false → length zs ≡ 191 → Raw (rawRow d) (z ∷ zs) d z
-raw-there d z zs e l = record {
+-- there are such rows: for every denominator above zero that reading lets pass, every first sample and every further 191
+pub raw-there : (d : ℕ) (z : ℤ) (zs : List ℤ) → barred d ≡ false → oddDenominator d ≡ false → length zs ≡ 191 → Raw (rawRow d) (z ∷ zs) d z
+raw-there d z zs e above l = record {
   slots = refl;
   fine = raw-allowed 0 d (lit< tt) e;
   raw = refl;
   denominator = refl;
+  above = above;
   samples = ap suc l;
   first = refl;
 }

@@ -11,6 +11,7 @@ use Rattle.bitstream.specs.Half.{barred}
 use Rattle.params.specs.Allowed.{rowAllowed}
 use Rattle.matrix.specs.Expanded.{replyOf}
 use Rattle.matrix.proofs.Lending.{all-samples}
+use Rattle.matrix.proofs.OddLaws.{not-odd}
 use Rattle.dequant.specs.Set.{expandSet}
 use Rattle.dequant.specs.Jpeg.{jpegNumbers, jpegAnswer, jpegValues}
 use Rattle.dequant.proofs.JpegLaws.{by-samples}
@@ -46,4 +47,4 @@ none-there c h = (p9 (rawFirst 0x1003) 394752 c .0 (asked-there 0x1003 c refl h)
 -- ---- and such a set is expanded
 -- with all samples 16 the set that has these JPEG values is accepted as a whole
 pub jpeg-set-done : replyOf (expandSet (rawFirst 0x1004) (replicate 394752 (pos 16)) 394752 394752) ≡ 0 ∷ []
-jpeg-set-done = first-same 0x1004 refl (pos 16) (p12 .1) 394752 refl
+jpeg-set-done = first-same 0x1004 refl (not-odd 0x1004 (lit< tt) (lit< tt)) (pos 16) (p12 .1) 394752 refl

@@ -16,16 +16,17 @@ use Rattle.transform.proofs.Laws.{end-le}
 use Rattle.bitstream.specs.Half.{half, barred}
 use Rattle.params.specs.Allowed.{rowAt, modeAt, rowAllowed, checkRows, checkReply}
 use Rattle.params.proofs.FaultLaws.{allowed-entry}
-use Rattle.matrix.specs.Raw.{weightOf, refused}
+use Rattle.matrix.specs.Raw.{oddDenominator, oddRow, weightOf, refused}
 use Rattle.matrix.specs.Expanded.{replyOf, expandAnswer}
+use Rattle.matrix.proofs.OddLaws.{not-odd, plain-row, raw-row}
 use Rattle.dequant.specs.Set.{setLent, expandSet}
 use Rattle.params.proofs.RawLaws.{all-samples}
 use Rattle.dequant.proofs.Lent.{by-samples}
 use Rattle.dequant.proofs.Kindwise.{mode-at}
 use Rattle.promises.proofs.RowRule.{zeroRow, zero-entry, rawRow, raw-entry}
 use Rattle.promises.proofs.Headed.{headed, headed-first, headed-row, headed-length, headed-passes}
-use Rattle.promises.proofs.Accepts.{lent-alone, raw-accepts}
-use Rattle.promises.proofs.DefaultsAccepted.{mixed-set}
+use Rattle.promises.proofs.Accepts.{Above, lent-alone, raw-accepts}
+use Rattle.promises.proofs.DefaultsAccepted.{RawFine, mixed-set}
 
 -- a raw row passes ROW for every kind, if reading lets its denominator pass
 pub raw-allowed : (k d : ℕ) → k < 17 → barred d ≡ false → rowAllowed k (rawRow d) ≡ true
@@ -37,6 +38,11 @@ rawFirst d = headed (rawRow d) zeroRow
 
 abbrev pub rawAll : ℕ → List ℕ
 rawAll d = headed (rawRow d) (rawRow d)
+
+-- the first passes DENOM where the denominator is above zero
+pub first-above : (d : ℕ) → oddDenominator d ≡ false → Above (rawFirst d)
+first-above d e zero h = ap oddRow (headed-first (rawRow d) zeroRow refl refl) ∙ raw-row (rawRow d) refl ∙ e
+first-above d e (suc k) h = ap oddRow (headed-row (rawRow d) zeroRow refl refl k h) ∙ plain-row zeroRow (λ z. omega arith)
 
 -- 2,176 numbers with 394,752 samples and two arenas pass LENT
 pub whole-lent : (rows : List ℕ) (zs : List ℤ) → length rows ≡ 2176 → length zs ≡ 394752 → setLent rows (length zs) 394752 394752 ≡ true
@@ -65,34 +71,35 @@ module _ (d : ℕ) (fine : barred d ≡ false) where
   all-rows zero h = headed-first (rawRow d) (rawRow d) refl refl
   all-rows (suc k) h = headed-row (rawRow d) (rawRow d) refl refl k h
 
-  module _ (zs : List ℤ) (long : length zs ≡ 394752) where
-    -- and are accepted where no sample of a raw kind times the denominator is refused
+  module _ (above : oddDenominator d ≡ false) (zs : List ℤ) (long : length zs ≡ 394752) where
+    -- and are accepted where the denominator is above zero and no sample of a raw kind times the denominator is refused
     first-done : ((i : ℕ) → i < placesOf 0 → refused (weightOf (half d) (getD zs i (pos 0))) ≡ false) → replyOf (expandSet (rawFirst d) zs 394752 394752) ≡ 0 ∷ []
     unfolding startOf
     first-done f = mixed-set (rawFirst d) zs 394752 394752 (whole-lent (rawFirst d) zs (headed-length (rawRow d) zeroRow refl refl) long) first-passes each
       where
-        each : (k : ℕ) → k < 17 → (modeAt (rawFirst d) k ≡ 0) ⊎ ((modeAt (rawFirst d) k ≡ 7) × ((i : ℕ) → i < placesOf k → refused (weightOf (half (getD (rowAt (rawFirst d) k) 3 0)) (getD zs (startOf k + i) (pos 0))) ≡ false))
-        each zero h = inr (refl, λ i g. let z : 0 + i ≡ i = omega arith in ap (λ (j : ℕ). refused (weightOf (half d) (getD zs j (pos 0)))) z ∙ f i g)
+        each : (k : ℕ) → k < 17 → (modeAt (rawFirst d) k ≡ 0) ⊎ RawFine (rawFirst d) zs k
+        each zero h = inr (record { raw = refl; above = above; fine = λ i g. let z : 0 + i ≡ i = omega arith in ap (λ (j : ℕ). refused (weightOf (half d) (getD zs j (pos 0)))) z ∙ f i g })
         each (suc k) h = inl (sym (mode-at (rawFirst d) (suc k)) ∙ ap (λ (r : List ℕ). getD r 0 0) (headed-row (rawRow d) zeroRow refl refl k h))
 
     pub all-done : ((i : ℕ) → i < 394752 → refused (weightOf (half d) (getD zs i (pos 0))) ≡ false) → replyOf (expandSet (rawAll d) zs 394752 394752) ≡ 0 ∷ []
     all-done f =
         mixed-set (rawAll d) zs 394752 394752 (whole-lent (rawAll d) zs (headed-length (rawRow d) (rawRow d) refl refl) long) all-passes
-        (λ k h. inr (
-          sym (mode-at (rawAll d) k) ∙ ap (λ (r : List ℕ). getD r 0 0) (all-rows k h),
-          λ i g. ap (λ (r : List ℕ). refused (weightOf (half (getD r 3 0)) (getD zs (startOf k + i) (pos 0)))) (all-rows k h) ∙ f (startOf k + i) (in-arena k i g),
-        ))
+        (λ k h. inr (record {
+          raw = sym (mode-at (rawAll d) k) ∙ ap (λ (r : List ℕ). getD r 0 0) (all-rows k h);
+          above = ap (λ (r : List ℕ). oddDenominator (getD r 3 0)) (all-rows k h) ∙ above;
+          fine = λ i g. ap (λ (r : List ℕ). refused (weightOf (half (getD r 3 0)) (getD zs (startOf k + i) (pos 0)))) (all-rows k h) ∙ f (startOf k + i) (in-arena k i g);
+        }))
 
   -- so where all n samples are the same one; n is 394,752
-  module _ (z : ℤ) (ok : refused (weightOf (half d) z) ≡ false) (n : ℕ) (whole : n ≡ 394752) where
+  module _ (above : oddDenominator d ≡ false) (z : ℤ) (ok : refused (weightOf (half d) z) ≡ false) (n : ℕ) (whole : n ≡ 394752) where
     same-fine : (i : ℕ) → i < 394752 → refused (weightOf (half d) (getD (replicate n z) i (pos 0))) ≡ false
     same-fine i h = ap (λ (x : ℤ). refused (weightOf (half d) x)) (getD-replicate n i z (pos 0) (lt-of-lt-of-le h (le-of-eq (sym whole)))) ∙ ok
 
     pub first-same : replyOf (expandSet (rawFirst d) (replicate n z) 394752 394752) ≡ 0 ∷ []
-    first-same = first-done (replicate n z) (length-replicate n z ∙ whole) (λ i h. same-fine i (lt-of-lt-of-le h first-fits))
+    first-same = first-done above (replicate n z) (length-replicate n z ∙ whole) (λ i h. same-fine i (lt-of-lt-of-le h first-fits))
 
     all-same : replyOf (expandSet (rawAll d) (replicate n z) 394752 394752) ≡ 0 ∷ []
-    all-same = all-done (replicate n z) (length-replicate n z ∙ whole) same-fine
+    all-same = all-done above (replicate n z) (length-replicate n z ∙ whole) same-fine
 
 -- ---- all samples 1 at the denominator 1
 -- 1 times 1 is a weight that is not refused
@@ -100,13 +107,16 @@ one-fine : refused (weightOf (half 0x3c00) (pos 1)) ≡ false
 unfolding weightOf refused half round mul ofInt le ne
 one-fine = refl
 
+one-above : oddDenominator 0x3c00 ≡ false
+one-above = not-odd 0x3c00 (lit< tt) (lit< tt)
+
 -- each kind by itself, lent its row, 3 x width x height samples of 1 and two outputs of that length, answers DONE
 pub ones-done : (k : ℕ) → k < 17 → replyOf (expandAnswer k (rawRow 0x3c00) (replicate (placesOf k) (pos 1)) (placesOf k) (placesOf k)) ≡ 0 ∷ []
 ones-done k h =
     let zs : List ℤ = replicate (placesOf k) (pos 1) in
-    raw-accepts k (rawRow 0x3c00) zs (placesOf k) (placesOf k) (lent-alone k (rawRow 0x3c00) zs h refl (length-replicate (placesOf k) (pos 1))) (raw-allowed k 0x3c00 h refl) refl
+    raw-accepts k (rawRow 0x3c00) zs (placesOf k) (placesOf k) (lent-alone k (rawRow 0x3c00) zs h refl (length-replicate (placesOf k) (pos 1))) (raw-allowed k 0x3c00 h refl) refl one-above
     (λ i g. ap (λ (z : ℤ). refused (weightOf (half 0x3c00) z)) (getD-replicate (placesOf k) i (pos 1) (pos 0) g) ∙ one-fine)
 
 -- all 17 as a set, lent 394,752 samples of 1 and two arenas of that length, answer DONE
 pub ones-set-done : replyOf (expandSet (rawAll 0x3c00) (replicate 394752 (pos 1)) 394752 394752) ≡ 0 ∷ []
-ones-set-done = all-same 0x3c00 refl (pos 1) one-fine 394752 refl
+ones-set-done = all-same 0x3c00 refl one-above (pos 1) one-fine 394752 refl

@@ -13,18 +13,20 @@ use Rattle.bitstream.proofs.Numbers as halves
 use Rattle.params.specs.Header.{replyOf, readHeader}
 use Rattle.params.specs.Allowed.{checkRows, checkReply}
 use Rattle.params.proofs.Numbers as headers
-use Rattle.matrix.specs.Raw.{weightOf, refused}
+use Rattle.matrix.specs.Raw.{oddDenominator, weightOf, refused}
 use Rattle.matrix.specs.Mirror.{straightPlace, transposedPlace, mirror}
 use Rattle.matrix.specs.Weight.{weightsOf}
 use Rattle.matrix.specs.Expanded.{replyOf as expandedReply, expandAnswer, leaves}
+use Rattle.matrix.proofs.OddLaws.{not-odd}
 use Rattle.dequant.specs.Set.{straightArena, setLent, expandSet}
 use Rattle.dequant.specs.Jpeg.{jpegNumbers, jpegAnswer}
 use Rattle.bands.proofs.Numbers.{P7, p7}
 use Rattle.promises.proofs.ByNumber.{done-only}
+use Rattle.promises.proofs.Accepts.{Above}
 use Rattle.promises.proofs.NumbersToHold as weights
 use Rattle.promises.proofs.RowRule.{zeroRow, rawRow}
 use Rattle.promises.proofs.Headed.{headed-length}
-use Rattle.promises.proofs.RawOnes.{rawFirst, whole-lent, first-passes, first-same}
+use Rattle.promises.proofs.RawOnes.{rawFirst, whole-lent, first-passes, first-above, first-same}
 use Rattle.promises.proofs.JpegNumbers.{Asked, p8, p9}
 use Rattle.promises.proofs.JpegThere.{asked-there}
 use Rattle.promises.proofs.FirstWeight.{Begins, set-first, set-refused, Raw, first-weight, first-refused, raw-there}
@@ -51,13 +53,13 @@ pub record Gives (d : ℕ) (z : ℤ) (w : Float) : Type 0 where
   pub alone : (row : List ℕ) (zs : List ℤ) → Raw row zs d z → getD (weightsOf row zs 0) 0 nan ≡ w
   pub alone-there : (row : List ℕ) × (zs : List ℤ) × Raw row zs d z
 
--- A sample times a denominator is refused. Every set that passes LENT and ROW, with row 0 raw of that denominator and that sample the first, is WEIGHT with kind 0, channel 0, place 0;
+-- A sample times a denominator is refused. Every set that passes LENT, ROW and DENOM, with row 0 raw of that denominator and that sample the first, is WEIGHT with kind 0, channel 0, place 0;
 -- and there is such a set. So is kind 0 by itself.
 pub record Refuses (d : ℕ) (z : ℤ) : Type 0 where
   pub product : refused (weightOf (half d) z) ≡ true
-  pub replies : (rows : List ℕ) (zs : List ℤ) → Begins rows zs d z → setLent rows (length zs) 394752 394752 ≡ true → checkReply (checkRows rows) ≡ 0 ∷ []
+  pub replies : (rows : List ℕ) (zs : List ℤ) → Begins rows zs d z → setLent rows (length zs) 394752 394752 ≡ true → checkReply (checkRows rows) ≡ 0 ∷ [] → Above rows
       → expandedReply (expandSet rows zs 394752 394752) ≡ 8 ∷ 0 ∷ 0 ∷ 0 ∷ []
-  pub there : (rows : List ℕ) × (zs : List ℤ) × Begins rows zs d z × (setLent rows (length zs) 394752 394752 ≡ true) × (checkReply (checkRows rows) ≡ 0 ∷ [])
+  pub there : (rows : List ℕ) × (zs : List ℤ) × Begins rows zs d z × (setLent rows (length zs) 394752 394752 ≡ true) × (checkReply (checkRows rows) ≡ 0 ∷ []) × Above rows
   pub alone : (row : List ℕ) (zs : List ℤ) → Raw row zs d z → expandedReply (expandAnswer 0 row zs 192 192) ≡ 8 ∷ 0 ∷ 0 ∷ 0 ∷ []
   pub alone-there : (row : List ℕ) × (zs : List ℤ) × Raw row zs d z
 
@@ -92,19 +94,19 @@ values : (d : ℕ) (reply : List ℕ) → barred d ≡ false → ((rows : List �
 values d reply fine f = record { answers = f; there = λ c h. (rawFirst d, 394752, asked-there d c fine h) }
 
 -- row 0 raw, 16 rows of zeros behind it, and n samples that are all the same
-module _ (d : ℕ) (z : ℤ) (fine : barred d ≡ false) (n : ℕ) (whole : n ≡ 394752) where
+module _ (d : ℕ) (z : ℤ) (fine : barred d ≡ false) (above : oddDenominator d ≡ false) (n : ℕ) (whole : n ≡ 394752) where
   begins : Begins (rawFirst d) (replicate n z) d z
   begins = record { raw = refl; denominator = refl; first = getD-replicate n 0 z (pos 0) (subst (λ (m : ℕ). 0 < m) (sym whole) (lit< tt)) }
 
   one-row : (row : List ℕ) × (zs : List ℤ) × Raw row zs d z
-  one-row = (rawRow d, z ∷ replicate 191 z, raw-there d z (replicate 191 z) fine (length-replicate 191 z))
+  one-row = (rawRow d, z ∷ replicate 191 z, raw-there d z (replicate 191 z) fine above (length-replicate 191 z))
 
   gives : (w : Float) → weightOf (half d) z ≡ w → refused (weightOf (half d) z) ≡ false → Gives d z w
   gives w e f = record {
     product = e;
     passes = ap refused (sym e) ∙ f;
     holds = λ rows zs straight b a. rw (done-only (expandSet rows zs 394752 394752) a) (set-first rows zs d z b ∙ e);
-    there = (rawFirst d, replicate n z, begins, first-same d fine z f n whole);
+    there = (rawFirst d, replicate n z, begins, first-same d fine above z f n whole);
     alone = λ row zs r. first-weight row zs d z r ∙ e;
     alone-there = one-row;
   }
@@ -112,8 +114,8 @@ module _ (d : ℕ) (z : ℤ) (fine : barred d ≡ false) (n : ℕ) (whole : n �
   refuses : refused (weightOf (half d) z) ≡ true → Refuses d z
   refuses e = record {
     product = e;
-    replies = λ rows zs b lent ok. set-refused rows zs d z b 394752 394752 lent ok e;
-    there = (rawFirst d, replicate n z, begins, whole-lent (rawFirst d) (replicate n z) (headed-length (rawRow d) zeroRow refl refl) (length-replicate n z ∙ whole), first-passes d fine);
+    replies = λ rows zs b lent ok even. set-refused rows zs d z b 394752 394752 lent ok even e;
+    there = (rawFirst d, replicate n z, begins, whole-lent (rawFirst d) (replicate n z) (headed-length (rawRow d) zeroRow refl refl) (length-replicate n z ∙ whole), first-passes d fine, first-above d above);
     alone = λ row zs r. first-refused row zs d z r e;
     alone-there = one-row;
   }
@@ -130,9 +132,9 @@ table-holds = record {
   p7 = p7;
   p8 = values 0x1004 (0 ∷ []) refl p8;
   p9 = (values 0x1003 (11 ∷ []) refl (λ rows n c. p9 rows n c .0), values 0x1005 (11 ∷ []) refl (λ rows n c. p9 rows n c .1));
-  p10 = (gives 0x7bff (pos 1526) refl 394752 refl (fin false 1561861 (pos 6)) (weights.p10 .0) (weights.p10 .1), refuses 0x7bff (pos 1527) refl 394752 refl (weights.p10 .2));
-  p11 = (gives 0x3c00 (pos 99999995) refl 394752 refl (fin false 12499999 (pos 3)) (weights.p11 .0) (weights.p11 .1), refuses 0x3c00 (pos 99999996) refl 394752 refl (weights.p11 .2));
-  p12 = gives 0x1004 (pos 16) refl 394752 refl (fin false 257 (negsuc 14)) (weights.p12 .0) (weights.p12 .1);
+  p10 = (gives 0x7bff (pos 1526) refl (not-odd 0x7bff (lit< tt) (lit< tt)) 394752 refl (fin false 1561861 (pos 6)) (weights.p10 .0) (weights.p10 .1), refuses 0x7bff (pos 1527) refl (not-odd 0x7bff (lit< tt) (lit< tt)) 394752 refl (weights.p10 .2));
+  p11 = (gives 0x3c00 (pos 99999995) refl (not-odd 0x3c00 (lit< tt) (lit< tt)) 394752 refl (fin false 12499999 (pos 3)) (weights.p11 .0) (weights.p11 .1), refuses 0x3c00 (pos 99999996) refl (not-odd 0x3c00 (lit< tt) (lit< tt)) 394752 refl (weights.p11 .2));
+  p12 = gives 0x1004 (pos 16) refl (not-odd 0x1004 (lit< tt) (lit< tt)) 394752 refl (fin false 257 (negsuc 14)) (weights.p12 .0) (weights.p12 .1);
   p13 = weights.p13-places;
   p13-mirror = weights.p13;
 }

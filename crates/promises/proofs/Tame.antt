@@ -29,6 +29,7 @@ use Rattle.matrix.specs.Expanded.{replyOf, orElse, listAnswer, bandAnswer, lent
 use Rattle.matrix.specs.Views.{Shaped}
 use Rattle.matrix.specs.Weight.{weightAt, gridWeight, mode1, mode2, mode3, mode4, mode5, corner, from, layer, rule, weightIn}
 use Rattle.matrix.proofs.Lending.{given}
+use Rattle.matrix.proofs.OddLaws.{plain-row}
 use Rattle.matrix.proofs.RowFacts.{facts, row-shaped, not-raw}
 use Rattle.promises.proofs.Accepts.{accepts, kind-passes}
 use Rattle.promises.proofs.RowNumbers.{listNumber, ownList}
@@ -336,4 +337,4 @@ tame-passes k row zs s t =
 pub tame-accepts : (k : ℕ) (row : List ℕ) (zs : List ℤ) (s t : ℕ) → lentRight k row (length zs) s t ≡ true → rowAllowed k row ≡ true → (getD row 0 0 ≡ 7 → ⊥) → Tame (numbersOf row k)
     → replyOf (expandAnswer k row zs s t) ≡ 0 ∷ []
 tame-accepts k row zs s t lent ok plain tame =
-    accepts k row zs s t lent ok (tame-passes k row zs (row-shaped k row (given k row (length zs) s t lent .kind) (facts k row ok) plain) tame)
+    accepts k row zs s t lent ok (plain-row row plain) (tame-passes k row zs (row-shaped k row (given k row (length zs) s t lent .kind) (facts k row ok) plain) tame)
