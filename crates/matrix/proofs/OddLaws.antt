@@ -1,14 +1,14 @@
--- Denominators of zero or below: by the bits of the half float, and what a row that is not refused for its denominator says. Assumes nothing.
+-- Denominators of zero or below: by the bits of a half float; and of a row, by its mode. Assumes nothing.
 use mathlib.Core.Path.{_≡_, refl, sym, ap, _∙_, subst}
 use mathlib.Core.Bool.{Bool, true, false, _&&_, _||_}
 use mathlib.Core.List.{List}
-use Prim.Native.Nat.{ℕ, zero, suc, _+_, _*_, _/_, _%_, _^_, _≤_, _<_}
+use Prim.Native.Nat.{ℕ, zero, suc, _+_, _*_, _/_, _%_, _^_, _<_}
 use mathlib.Core.Logic.{⊎-elim}
 use native.Mathlib.Nat.{zero-mul, mul-one, mul-pos, lt-irrefl, eq-zero-or-pos}
 use native.Mathlib.Omega.{arith}
 use borrow.Author.Tests.{eq-eqb, ne-eqb, leb-false, lt-leb, lt-ltb, le-ltb}
 use lib.Dec.{leb, ltb, eqb, lit<}
-use lib.IntN.{ℤ, pos}
+use lib.IntN.{ℤ}
 use lib.ListN.{getD}
 use lib.Pow.{pow-pos}
 use lib.Ieee.{Float, nan, inf, fin, up, down, le, lt, eq}
@@ -48,7 +48,7 @@ of-value (fin t m e) s a c C h = le-nought t m e ∙ ap (λ (t : Bool). t || eqb
     same (suc n) zero g = absurd (lt-irrefl 0 (subst (λ (x : ℕ). 0 < x) (g ∙ zero-mul (down e)) (mul-pos {m = suc n} (omega arith) C)))
     same (suc n) (suc a) g = ne-eqb (suc n) 0 (λ z. omega arith) ∙ sym (ne-eqb (suc a) 0 (λ z. omega arith))
 
-pub odd-is : (h : ℕ) → oddDenominator h ≡ (leb 32768 h || eqb (sizeIs (h / 1024 % 32) (h % 1024)) 0)
+odd-is : (h : ℕ) → oddDenominator h ≡ (leb 32768 h || eqb (sizeIs (h / 1024 % 32) (h % 1024)) 0)
 unfolding oddDenominator
 odd-is h = of-value (half h) (leb 32768 h) (sizeIs (h / 1024 % 32) (h % 1024)) (2 ^ 24) (lit< tt) (half-exact h)
 

@@ -30,6 +30,7 @@ pub mod Places
 pub mod RawPlaces
 pub mod Arena
 pub mod AcceptedSet
+pub mod Denominators
 pub mod Shows
 pub mod Differ
 pub mod DifferThere

@@ -71,7 +71,7 @@ pub entries-pass : (rows : List ℕ) → length rows ≡ 2176 → ((k : ℕ) →
 entries-pass rows l f = rows-pass rows l (flag-off rows (f 0 (omega arith))) (λ k h. sym (allowed-entry k (rowAt rows k) (omega arith) (f k h)))
 
 -- ---- where a test first fails
-passed-before : (ok : ℕ → Bool) (n j : ℕ) → j < before ok n → ok j ≡ true
+pub passed-before : (ok : ℕ → Bool) (n j : ℕ) → j < before ok n → ok j ≡ true
 unfolding before
 passed-before ok zero j h = absurd (not-suc-le-zero h)
 passed-before ok (suc n) j h = go (passed-before ok n j) (eqb (before ok n) n) (ok n) refl refl h
@@ -81,7 +81,7 @@ passed-before ok (suc n) j h = go (passed-before ok n j) (eqb (before ok n) n) (
     go r true false p q l = r l
     go r false b p q l = r l
 
-fails-at : (ok : ℕ → Bool) (n : ℕ) → before ok n < n → ok (before ok n) ≡ false
+pub fails-at : (ok : ℕ → Bool) (n : ℕ) → before ok n < n → ok (before ok n) ≡ false
 unfolding before
 fails-at ok zero h = absurd (not-suc-le-zero h)
 fails-at ok (suc n) h = go (fails-at ok n) (eqb (before ok n) n) (ok n) refl refl h
