@@ -1,13 +1,13 @@
 #!/usr/bin/env python3
 """Makes crates/set_cases/stdin and crates/set_cases/stdout from the vectors of tests/vectors with call=expand, expand_kind, lookup, jpeg,
-importer or matrixlist, and from two runs of document 01.
+importer or matrixlist, and from a few runs of documents 01 and 02. A vector with reply_len is for the C face alone.
 
 A vector is a text file of key=value lines: row.K (the rows, each without the zeros at its end), samples (none, const:V or
 lin:A,B,M: sample p is A + p*B mod M; behind it P=V for each sample that stands apart), kind, channel, order, rows_len,
 samples_len, straight_len and transposed_len where they aren't the right ones, header (hex), and what the call must give. What the vectors want
 goes to stdout: the reply; of an arena whether it is unchanged or zero, or else the total and the weights at the places that the
 vector lists; of a part its length, its first and last, and its total, or its values, once they have the digest that the vector
-wants. Nothing of ours is run here."""
+wants, or where it says the part by its place and length, those. Nothing of ours is run here."""
 import array
 import hashlib
 import os
@@ -73,11 +73,14 @@ def part_of_arena(v):
 
 
 def values(v):
-    if v["want.part"] == "empty":
+    if v.get("want.part") == "empty":
         return "part="
-    channel = int(v["channel"])
-    part = samples(v["samples"], ARENA)[64 * channel:64 * channel + 64]
-    assert v["want.part"] == "64 %s" % hashlib.sha256(array.array("i", part).tobytes()).hexdigest()
+    # document 02's vectors have no part: the reply's values are its first place and its length
+    first, length = 64 * int(v["channel"]), 64
+    if "want.part" not in v:
+        first, length = [int(x) for x in v["want.reply"].split()[1:]] or (0, 0)
+    part = samples(v["samples"], ARENA)[first:first + length]
+    assert v.get("want.part", "") in ("", "64 %s" % hashlib.sha256(array.array("i", part).tobytes()).hexdigest())
     return "part=" + ",".join("%08x" % bits(x) for x in part)
 
 
@@ -138,20 +141,29 @@ def everywhere(v, places, weight, sum_of_all):
     return v
 
 
+def denom(kind, v):
+    """a vector that wants DENOM with this kind"""
+    return {**v, "want.reply": "12 %d" % kind, "want.straight": "unchanged", "want.transposed": "unchanged"}
+
+
 def runs():
-    """document 01's: default kind 3, channel 0 is 1/2200 everywhere (its total is a vector's); samples -5 with denominator bc00 give 5"""
+    """document 01's: default kind 3, channel 0 is 1/2200 everywhere (its total is a vector's). Document 02's: denominators bc00, with
+    samples -5 that cancel its sign, 8000 and 0000 are DENOM; so is kind 16's, behind a band of kind 0 that is refused where 16 is not"""
     three = load(os.path.join(VECTORS, "kind-003.vec"))
     assert three["kind"] == "3" and three["row.3"] == "0" and three["want.straight.total64"] == three["want.transposed.total64"]
     yield "channel", everywhere(three, range(64), 1 / 2200, three["want.straight.total64"])
-    raw = {"call": "expand_kind", "kind": "0", "row.0": "7,0,0,bc00", "samples": "const:-5", "want.reply": "0"}
-    yield "negative", everywhere(raw, range(192), 5.0, total([bits(5.0)] * 192))
+    for name, denominator in ("negative", "bc00"), ("minus-zero", "8000"), ("zero", "0000"):
+        yield name, denom(0, {"call": "expand_kind", "kind": "0", "row.0": "7,0,0," + denominator, "samples": "const:-5"})
+    band = {"call": "expand", "row.0": "6,2,0,3c00,3c00,0,3c00,3c00,3c00", "samples": "const:5"}
+    yield "before-band", denom(16, {**band, "row.16": "7,0,0,bc00"})
+    yield "band", {**band, "row.16": "7,0,0,3c00", "want.reply": "7 0 1 1", "want.straight": "zero", "want.transposed": "zero"}
 
 
 def main():
     vectors = []
     for name in sorted(os.listdir(VECTORS)):
         v = load(os.path.join(VECTORS, name))
-        if v["call"] in CALLS:
+        if v["call"] in CALLS and "reply_len" not in v:
             vectors.append((name.rsplit(".", 1)[0], v))
     vectors += runs()
     at = 4 + 4 * len(vectors)
