@@ -30,7 +30,8 @@ enum dequant_reply {
     DEQUANT_WEIGHT = 8,  /* kind, channel, place: a weight >= 100,000,000 or <= 0 or NaN; outputs all zero */
     DEQUANT_ROOM = 9,    /* length needed; nothing changed */
     DEQUANT_TEXT = 10,   /* longest beginning shared with any record; nothing changed */
-    DEQUANT_NONE = 11    /* no JPEG values */
+    DEQUANT_NONE = 11,   /* no JPEG values */
+    DEQUANT_DENOM = 12   /* kind: the lowest that is raw with a denominator of zero or below, whatever its samples; nothing changed */
 };
 
 enum dequant_order { DEQUANT_UNNAMED = 0, DEQUANT_STRAIGHT = 1, DEQUANT_TRANSPOSED = 2 };
@@ -39,13 +40,15 @@ enum dequant_order { DEQUANT_UNNAMED = 0, DEQUANT_STRAIGHT = 1, DEQUANT_TRANSPOS
 uint32_t dequant_read_header(const uint8_t *header, size_t header_length, uint64_t bit, size_t kind,
                              uint16_t *rows, size_t rows_length, uint64_t *reply, size_t reply_length);
 
-/* Expands one kind from its own row of 128 and, where it is raw, its 3 x width x height samples. */
+/* Expands one kind from its own row of 128 and, where it is raw, its 3 x width x height samples. LENT, ROW_BAD and DENOM leave both
+   outputs as they were, BAND and WEIGHT all zero; each refusal comes before those behind it in this order. */
 uint32_t dequant_expand_kind(size_t kind, const uint16_t *row, size_t row_length,
                              const int32_t *samples, size_t samples_length,
                              float *straight, size_t straight_length, float *transposed, size_t transposed_length,
                              uint64_t *reply, size_t reply_length);
 
-/* Expands all kinds into two arenas; samples are an arena too, or none if no row is raw. */
+/* Expands all kinds into two arenas; samples are an arena too, or none if no row is raw. LENT, then ROW_BAD and then DENOM for all
+   rows; then kind by kind BAND and WEIGHT. They leave the arenas as for one kind. */
 uint32_t dequant_expand(const uint16_t *rows, size_t rows_length, const int32_t *samples, size_t samples_length,
                         float *straight, size_t straight_length, float *transposed, size_t transposed_length,
                         uint64_t *reply, size_t reply_length);

@@ -203,8 +203,10 @@ pub fn entry(rng: &mut Rng, bits: &mut Bits, mode: u16, style: Style, n: [usize;
         }
     }
     if mode == 7 {
-        let common = [0x1004, 0x3c00, 0xbc00, 0x7bff, 0x0001, 0x2000];
-        numbers.push(if rng.below(2) == 0 { rng.pick(&common) } else { fine(rng) });
+        let common = [0x1004, 0x3c00, 0x7bff, 0x0001, 0x2000];
+        let above = if rng.below(2) == 0 { rng.pick(&common) } else { fine(rng) & 0x7fff };
+        // a set is refused as a whole for one that is zero or below, so they are few
+        numbers.push(if rng.below(16) == 0 { rng.pick(&[0, 0x8000, above | 0x8000]) } else { above });
     }
     bits.halves(numbers);
     if (3..=6).contains(&mode) {

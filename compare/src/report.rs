@@ -5,6 +5,8 @@ pub const A: &str = "domain (a): NaN accepted there, BAND here";
 pub const B: &str = "domain (b): one refuses, a weight or number within two parts in 1,000,000 of a limit";
 pub const C: &str = "infinite band: BAND here, refused later there";
 pub const D: &str = "JPEG values here, no set there since another kind is refused";
+pub const E: &str = "outside the domain since document 02's ticket 9: a raw denominator of zero or below, DENOM here, accepted there";
+pub const F: &str = "the same, refused there too";
 
 #[derive(Default)]
 pub struct Report {
@@ -57,7 +59,7 @@ impl Report {
         }
         println!("worst distance of an interpolated weight: {:.4} parts in 1,000,000, {} units in the last place", self.worst * 1e6, self.ulps);
         println!("  at {}", self.worst_at);
-        for class in [A, B, C, D] {
+        for class in [A, B, C, D, E, F] {
             match self.classes.get(class) {
                 Some((n, input)) => println!("{n:>12}  {class}\n              smallest: {input}"),
                 None => println!("{:>12}  {class}", 0),

@@ -94,6 +94,11 @@ pub fn compare(report: &mut Report, bytes: &[u8], bit: u64, mut set: Set) {
     let (theirs, _) = ported::parse_set(bytes, bit);
     let reply = dequant::expand(&set.rows, &set.samples, &mut set.straight, &mut set.transposed);
     jpeg(report, &set, theirs.as_ref().ok(), input);
+    if let Some(kind) = (0..17).find(|&k| weights::odd(set.row(k))) {
+        report.check(reply == Reply::Denom { kind }, "DENOM with the lowest kind of a denominator of zero or below", input);
+        report.check(set.straight.iter().chain(&set.transposed).all(|&w| w == 7.0), "DENOM changes no arena", input);
+        return report.class(if theirs.is_ok() { report::E } else { report::F }, input());
+    }
     if let (Reply::Done(_), Ok(theirs)) = (reply, &theirs) {
         report.count("sets accepted by both", 1);
         return matrices(report, &set, theirs, input);
@@ -127,13 +132,15 @@ pub fn random(report: &mut Report, rng: &mut Rng) {
     compare(report, &bits.bytes, before as u64, set);
 }
 
-/// JPEG values in kind 0, and kind 1 refused: there is no set there.
+/// JPEG values in kind 0, and kind 1 refused: there is no set there. And kind 4 of denominator bc00 with samples -5, which cancel there.
 pub fn known(report: &mut Report) {
-    let mut denominators = [0x3c00; 17];
-    (denominators[0], denominators[1]) = (0x1004, 0);
-    let bits = make::all_raw(denominators);
-    let set = Set::read(&bits.bytes, 0, |kind, _| vec![1; dequant::places(kind)]);
-    compare(report, &bits.bytes, 0, set);
+    for (odd, denominator, sample) in [(1, 0, 1), (4, 0xbc00, -5)] {
+        let mut denominators = [0x3c00; 17];
+        (denominators[0], denominators[odd]) = (0x1004, denominator);
+        let bits = make::all_raw(denominators);
+        let set = Set::read(&bits.bytes, 0, |kind, _| vec![if kind == odd { sample } else { 1 }; dequant::places(kind)]);
+        compare(report, &bits.bytes, 0, set);
+    }
 }
 
 /// Sets all raw, with a denominator in kind 0: those whose values are JPEG's.

@@ -99,6 +99,11 @@ fn transposed(kind: usize, straight: &[f32], turned: &[f32]) -> bool {
     })
 }
 
+/// Whether a row is raw with a denominator of zero or below: outside the domain of comparison.
+pub fn odd(row: &[u16]) -> bool {
+    row[0] == 7 && half(row[3]).unwrap() <= 0.0
+}
+
 /// One accepted or refused kind; `input` says where it is from. Gives our reply, and whether the Rust accepts.
 pub fn kind(
     report: &mut Report, kind: usize, row: &[u16], samples: &[i32], entry: ported::Entry, input: &dyn Fn() -> String,
@@ -110,6 +115,12 @@ pub fn kind(
     let reply = dequant::expand_kind(kind, row, samples, &mut straight, &mut turned);
     let theirs = entry.into_matrix();
     let said = || format!("{} reply {reply:?} theirs {:?} noted {:?}", input(), theirs.as_ref().map(|_| ()), standins::noted());
+    if odd(row) {
+        report.check(reply == Reply::Denom { kind }, "DENOM for a denominator of zero or below", said);
+        report.check(straight.iter().chain(&turned).all(|&w| w == 7.0), "DENOM changes nothing", said);
+        report.class(if theirs.is_ok() { report::E } else { report::F }, said());
+        return (reply, theirs.is_ok());
+    }
     if !matches!(reply, Reply::Done(_)) {
         let zero = straight.iter().chain(&turned).all(|w| w.to_bits() == 0);
         report.check(zero, "a refusal leaves zeros", said);

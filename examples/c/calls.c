@@ -44,6 +44,14 @@ static void expanding(void) {
     samples[70] = 0;
     check(dequant_expand_kind(0, rows, DEQUANT_ROW, samples, 192, straight, 192, transposed, 192, reply, 3) == DEQUANT_WEIGHT && says(0, 1, 6), "a zero sample");
     check(straight[0] == 0.0f && straight[191] == 0.0f && straight[192] != 0.0f, "outputs all zero");
+    float before = straight[DEQUANT_ARENA - 1];
+    rows[16 * DEQUANT_ROW] = 7; /* raw, with the denominator minus zero: refused before kind 0's zero sample is met */
+    rows[16 * DEQUANT_ROW + 3] = 0x8000;
+    check(dequant_expand(rows, DEQUANT_ROWS, samples, DEQUANT_ARENA, straight, DEQUANT_ARENA, transposed, DEQUANT_ARENA, reply, 3) == DEQUANT_DENOM && says(16, 0, 0), "denominator minus zero");
+    check(straight[DEQUANT_ARENA - 1] == before && before != 0.0f, "arenas unchanged");
+    reply[0] = 5;
+    check(dequant_expand(rows, DEQUANT_ROWS, samples, DEQUANT_ARENA, straight, DEQUANT_ARENA, transposed, DEQUANT_ARENA, reply, 2) == DEQUANT_LENT && says(5, 0, 0), "a reply of two places, expanding");
+    rows[16 * DEQUANT_ROW] = rows[16 * DEQUANT_ROW + 3] = 0;
 }
 
 static void records(void) {

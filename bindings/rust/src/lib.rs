@@ -68,6 +68,8 @@ pub enum Reply {
     Text { /** the longest beginning that some record has too */ shared: u64 },
     /// 11: no JPEG values.
     None,
+    /// 12: a raw kind's denominator is zero or below, whatever its samples. Nothing was changed.
+    Denom { /** the lowest such kind */ kind: usize },
 }
 
 impl Reply {
@@ -86,7 +88,9 @@ impl Reply {
             8 => Reply::Weight { kind, channel, place },
             9 => Reply::Room { length: a },
             10 => Reply::Text { shared: a },
-            _ => Reply::None,
+            11 => Reply::None,
+            12 => Reply::Denom { kind },
+            _ => unreachable!("the library has no reply {number}"),
         }
     }
 }
@@ -128,7 +132,8 @@ pub fn read_header(header: &[u8], bit: u64, kind: usize, rows: &mut [u16]) -> Re
 }
 
 /// Expands one kind from its own row of [`ROW`] numbers and, where it is raw, its 3 x width x height samples
-/// (else none will do) into two outputs of 3 x width x height weights.
+/// (else none will do) into two outputs of 3 x width x height weights. `Lent`, `Row` and `Denom` leave both as they were,
+/// `Band` and `Weight` all zero; each refusal comes before those behind it in this order.
 #[rustfmt::skip]
 pub fn expand_kind(kind: usize, row: &[u16], samples: &[i32], straight: &mut [f32], transposed: &mut [f32]) -> Reply {
     reply(|r, n| unsafe {
@@ -140,6 +145,7 @@ pub fn expand_kind(kind: usize, row: &[u16], samples: &[i32], straight: &mut [f3
 }
 
 /// Expands all kinds into two arenas of [`ARENA`] weights. `samples` has [`ARENA`] numbers, or none if no row is raw.
+/// `Lent`, then `Row` and then `Denom` for all rows; then kind by kind `Band` and `Weight`.
 #[rustfmt::skip]
 pub fn expand(rows: &[u16], samples: &[i32], straight: &mut [f32], transposed: &mut [f32]) -> Reply {
     reply(|r, n| unsafe {

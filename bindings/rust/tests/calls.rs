@@ -62,6 +62,28 @@ fn matrices_are_looked_up() {
     assert!(straight[0] > 0.0);
 }
 
+/// DENOM comes behind ROW and before BAND, names the lowest kind, and changes nothing.
+#[test]
+fn an_odd_denominator_refuses_the_set() {
+    let mut rows = vec![0; ROWS];
+    rows[..9].copy_from_slice(&[6, 2, 0, 0x3c00, 0x3c00, 0, 0x3c00, 0x3c00, 0x3c00]); // kind 0: band 1 of channel 1 is 0
+    let samples = vec![-5; ARENA];
+    let (mut straight, mut transposed) = (vec![9.0; ARENA], vec![9.0; ARENA]);
+    assert_eq!(expand(&rows, &[], &mut straight, &mut transposed), Reply::Band { kind: 0, channel: 1, band: 1 });
+    assert!(straight.iter().chain(&transposed).all(|&w| w == 0.0));
+    straight.fill(9.0);
+    transposed.fill(9.0);
+    for (kind, denominator) in [(16, 0xbc00), (5, 0x8000), (3, 0x0000)] {
+        rows[kind * ROW] = 7;
+        rows[kind * ROW + 3] = denominator;
+        assert_eq!(expand(&rows, &samples, &mut straight, &mut transposed), Reply::Denom { kind });
+    }
+    assert!(straight.iter().chain(&transposed).all(|&w| w == 9.0));
+    assert_eq!(jpeg_quant_values(&rows, &samples, 0), Err(Reply::None));
+    rows[16 * ROW + 4] = 1;
+    assert_eq!(expand(&rows, &samples, &mut straight, &mut transposed), Reply::Row { kind: 16 });
+}
+
 #[test]
 fn jpeg_values_are_a_part_of_the_samples() {
     let mut rows = rows_of(&[0; 7]);

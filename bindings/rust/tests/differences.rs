@@ -28,13 +28,24 @@ fn modes_1_and_2_are_not_scaled() {
     assert_eq!((w[0], w[1], w[63]), (1.0, 0.5, 0.5));
 }
 
-/// libjxl refuses a denominator below 1e-8 and samples that are not positive; two signs that cancel pass here.
+/// libjxl refuses a denominator below 1e-8 and samples that are not positive. Here a denominator above zero may be as small as a half
+/// float is, and a sample is refused by its weight.
 #[test]
-fn negative_denominators_cancel_negative_samples() {
-    let w = weights(0, &[7, 0, 0, 0xbc00], &[-5; 192]).unwrap();
-    assert!(w.iter().all(|&w| w == 5.0));
+fn a_small_denominator_passes() {
+    let w = weights(0, &[7, 0, 0, 0x0001], &[1; 192]).unwrap();
+    assert!(w.iter().all(|&w| w == 1.0 / 16_777_216.0));
     assert_eq!(weights(0, &[7, 0, 0, ONE], &[-5; 192]), Err(Reply::Weight { kind: 0, channel: 0, place: 0 }));
-    assert_eq!(weights(0, &[7, 0, 0, 0], &[5; 192]), Err(Reply::Weight { kind: 0, channel: 0, place: 0 }));
+    assert_eq!(weights(0, &[7, 0, 0, ONE], &[0; 192]), Err(Reply::Weight { kind: 0, channel: 0, place: 0 }));
+}
+
+/// The Rust takes a negative denominator with negative samples, which cancel; here no denominator of zero or below is taken.
+#[test]
+fn odd_denominators_are_refused() {
+    for denominator in [0x0000, 0x8000, 0x8001, 0xbc00, 0xfbff] {
+        for sample in [-5, 0, 5] {
+            assert_eq!(weights(0, &[7, 0, 0, denominator], &[sample; 192]), Err(Reply::Denom { kind: 0 }));
+        }
+    }
 }
 
 /// libjxl refuses a band below 1e-8; here a band may be as small as it likes, its weight may not be 100,000,000.
