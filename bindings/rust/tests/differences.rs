@@ -28,10 +28,10 @@ fn modes_1_and_2_are_not_scaled() {
     assert_eq!((w[0], w[1], w[63]), (1.0, 0.5, 0.5));
 }
 
-/// libjxl refuses a denominator below 1e-8 and samples that are not positive. Here a denominator above zero may be as small as a half
-/// float is, and a sample is refused by its weight.
+/// libjxl refuses samples that are not positive; here their weights are. A denominator below 1e-8 is refused by both: the least half
+/// float above zero, 6e-8, is none.
 #[test]
-fn a_small_denominator_passes() {
+fn samples_are_refused_by_their_weights() {
     let w = weights(0, &[7, 0, 0, 0x0001], &[1; 192]).unwrap();
     assert!(w.iter().all(|&w| w == 1.0 / 16_777_216.0));
     assert_eq!(weights(0, &[7, 0, 0, ONE], &[-5; 192]), Err(Reply::Weight { kind: 0, channel: 0, place: 0 }));
