@@ -3,7 +3,7 @@ use mathlib.Core.Path.{_≡_, refl, sym, ap, _∙_, subst}
 use mathlib.Core.Bool.{Bool, true, false, cond, not, _&&_, _||_}
 use mathlib.Core.List.{List, [], _∷_}
 use Prim.Native.Nat.{ℕ, zero, suc, _+_, _-_, _*_, _/_, _%_, _^_, _≤_, _<_}
-use native.Mathlib.Nat.{mod-lt, div-lt-iff-lt-mul, le-refl, le-trans, le-of-eq, le-suc, lt-of-lt-of-le, lt-of-le-of-lt, not-suc-le-zero, mul-one, one-mul, mul-comm, mul-right-comm, mul-pos, mul-le-mul-right, mul-le-mul-left, le-of-mul-le-mul-right}
+use native.Mathlib.Nat.{mod-lt, div-lt-iff-lt-mul, le-refl, le-trans, le-of-eq, le-suc, lt-of-lt-of-le, lt-of-le-of-lt, lt-irrefl, not-suc-le-zero, mul-one, one-mul, mul-comm, mul-right-comm, mul-pos, mul-le-mul-right, mul-le-mul-left, le-of-mul-le-mul-right}
 use native.Mathlib.Omega.{arith}
 use borrow.Author.Tests.{le-ltb, ne-eqb, eq-eqb}
 use lib.Dec.{ltb, eqb, leb, leb→le, lit<, lit≤}
@@ -29,7 +29,7 @@ use Rattle.matrix.specs.Expanded.{replyOf, orElse, listAnswer, bandAnswer, lent
 use Rattle.matrix.specs.Views.{Shaped}
 use Rattle.matrix.specs.Weight.{weightAt, gridWeight, mode1, mode2, mode3, mode4, mode5, corner, from, layer, rule, weightIn}
 use Rattle.matrix.proofs.Lending.{given}
-use Rattle.matrix.proofs.OddLaws.{plain-row}
+use Rattle.matrix.proofs.OddLaws.{le-nought, plain-row}
 use Rattle.matrix.proofs.RowFacts.{facts, row-shaped, not-raw}
 use Rattle.promises.proofs.Accepts.{accepts, kind-passes}
 use Rattle.promises.proofs.RowNumbers.{listNumber, ownList}
@@ -37,13 +37,15 @@ use Rattle.promises.proofs.PowerBetween.{Within, Room}
 use Rattle.promises.proofs.WeightBetween.{grid-within, freq-within}
 
 -- ---- a value above 0 and below 100,000,000 is not refused
+some-above : (m : ℕ) (e : ℤ) → 0 < m * up e → le (fin false m e) nought ≡ false
+some-above m e low = le-nought false m e ∙ ne-eqb (m * up e) 0 (λ z. lt-irrefl 0 (subst (λ (n : ℕ). 0 < n) z low))
+
 fine-fin : (m : ℕ) (e : ℤ) → 0 < m * up e → m * up e < 100000000 * down e → refused (fin false m e) ≡ false
 unfolding refused le ne lt eq
 fine-fin m e low high =
     ap (λ (b : Bool). (b || (eqb (390625 * 2 ^ 8 * down e) (m * up e * 1) && (true || eqb (390625 * 2 ^ 8 * down e) 0))) || (le (fin false m e) nought || ne (fin false m e) (fin false m e))) (le-ltb (390625 * 2 ^ 8 * down e) (m * up e * 1) (top (m * up e) (down e) high))
     ∙ ap (λ (b : Bool). (b && (true || eqb (390625 * 2 ^ 8 * down e) 0)) || (le (fin false m e) nought || ne (fin false m e) (fin false m e))) (ne-eqb (390625 * 2 ^ 8 * down e) (m * up e * 1) (λ z. apart (m * up e) (down e) high z))
-    ∙ ap (λ (b : Bool). (b || (eqb (m * up e * 1) (0 * 1 * down e) && (true || eqb (m * up e * 1) 0))) || ne (fin false m e) (fin false m e)) (le-ltb (m * up e * 1) (0 * 1 * down e) (none (m * up e) (down e)))
-    ∙ ap (λ (b : Bool). (b && (true || eqb (m * up e * 1) 0)) || ne (fin false m e) (fin false m e)) (ne-eqb (m * up e * 1) (0 * 1 * down e) (λ z. some (m * up e) (down e) low z))
+    ∙ ap (λ (b : Bool). b || ne (fin false m e) (fin false m e)) (some-above m e low)
     ∙ ap (λ (b : Bool). not (b && (true || eqb (m * up e * down e) 0))) (eq-eqb (m * up e * down e) (m * up e * down e) refl)
   where
     top : (n d : ℕ) → n < 100000000 * d → n * 1 ≤ 390625 * 2 ^ 8 * d
@@ -51,12 +53,6 @@ fine-fin m e low high =
 
     apart : (n d : ℕ) → n < 100000000 * d → 390625 * 2 ^ 8 * d ≡ n * 1 → ⊥
     apart n d h z = omega arith
-
-    none : (n d : ℕ) → 0 * 1 * d ≤ n * 1
-    none n d = omega arith
-
-    some : (n d : ℕ) → 0 < n → n * 1 ≡ 0 * 1 * d → ⊥
-    some n d h z = omega arith
 
 fine-value : (x : Float) (g : ℕ) → Units binary32 x g → 0 < g → g ≤ 2 ^ 175 → refused x ≡ false
 fine-value nan g v l h = absurd v
@@ -160,15 +156,7 @@ pub record Tame (n : Numbers) : Type 0 where
 -- ---- no band is refused
 above-passes : (m : ℕ) (e : ℤ) → 0 < m * up e → barred (fin false m e) ≡ false
 unfolding barred le lt eq
-above-passes m e low =
-    ap (λ (b : Bool). (b || (eqb (m * up e * 1) (0 * 1 * down e) && (true || eqb (m * up e * 1) 0))) || false) (le-ltb (m * up e * 1) (0 * 1 * down e) (none (m * up e) (down e)))
-    ∙ ap (λ (b : Bool). (b && (true || eqb (m * up e * 1) 0)) || false) (ne-eqb (m * up e * 1) (0 * 1 * down e) (λ z. some (m * up e) (down e) low z))
-  where
-    none : (n d : ℕ) → 0 * 1 * d ≤ n * 1
-    none n d = omega arith
-
-    some : (n d : ℕ) → 0 < n → n * 1 ≡ 0 * 1 * d → ⊥
-    some n d h z = omega arith
+above-passes m e low = ap (λ (b : Bool). b || false) (some-above m e low)
 
 banded-passes : (b : Float) → Moderate b → barred b ≡ false
 banded-passes b r = go b (r .at) (r .value) (lt-of-lt-of-le (pow-pos 125) (r .least))
