@@ -17,6 +17,7 @@ use lib.Ieee.Exact.{HasValue}
 use lib.Ieee.Positive.{positive}
 use Rattle.transform.specs.Kinds.{areaOf, placesOf, startOf, part}
 use Rattle.transform.proofs.FirstLaws.{before-stop, before-every}
+use Rattle.transform.proofs.Laws.{side}
 use Rattle.bitstream.specs.Half.{half, barred}
 use Rattle.bitstream.proofs.HalfLaws.{half-exact}
 use Rattle.params.specs.Allowed.{rowAt, modeAt, rowFault, rowAllowed, checkRows, checkReply}
@@ -34,7 +35,7 @@ use Rattle.matrix.proofs.Replies.{done-is, stops}
 use Rattle.matrix.proofs.Said.{says-denom, raw-at}
 use Rattle.dequant.specs.Set.{setLent, denomFault, kindsAnswer, expandSet}
 use Rattle.dequant.proofs.Kindwise.{mode-at, refusal-leaves}
-use Rattle.dequant.proofs.Lent.{given, even, says-denom as set-says-denom}
+use Rattle.dequant.proofs.Lent.{given, notOdd, denoms-above, says-denom as set-says-denom}
 use Rattle.promises.proofs.ByNumber.{differs, denom-only}
 use Rattle.promises.proofs.RowsChecked.{done-fault, passed-before, fails-at}
 use Rattle.promises.proofs.RowRule.{rawRow}
@@ -71,8 +72,8 @@ odd-row : (row : List ℕ) → Odd row → oddRow row ≡ true
 unfolding oddDenominator
 odd-row row o = raw-row row (o .raw) ∙ o .denominator
 
-even-row : (row : List ℕ) → (Odd row → ⊥) → oddRow row ≡ false
-even-row row n = go (oddRow row) refl
+not-odd-row : (row : List ℕ) → (Odd row → ⊥) → oddRow row ≡ false
+not-odd-row row n = go (oddRow row) refl
   where
     go : (b : Bool) → oddRow row ≡ b → oddRow row ≡ false
     go true e = absurd (n (row-odd row e))
@@ -125,14 +126,14 @@ module _ (rows : List ℕ) where
   unfolding denomFault
   fault-lowest k z h = record {
     kind = h;
-    odd = row-odd (rowAt rows k) (not-false (oddRow (rowAt rows k)) (sym (ap (even rows) z) ∙ fails-at (even rows) 17 (subst (λ (n : ℕ). n < 17) (sym z) h)));
-    first = λ j l o. true≢false (sym (odd-row (rowAt rows j) o) ∙ not-true (oddRow (rowAt rows j)) (passed-before (even rows) 17 j (subst (λ (n : ℕ). j < n) (sym z) l)));
+    odd = row-odd (rowAt rows k) (not-false (oddRow (rowAt rows k)) (sym (ap (notOdd rows) z) ∙ fails-at (notOdd rows) 17 (subst (λ (n : ℕ). n < 17) (sym z) h)));
+    first = λ j l o. true≢false (sym (odd-row (rowAt rows j) o) ∙ not-true (oddRow (rowAt rows j)) (passed-before (notOdd rows) 17 j (subst (λ (n : ℕ). j < n) (sym z) l)));
   }
 
   lowest-fault : (k : ℕ) → Lowest rows k → k ≡ denomFault rows
   unfolding denomFault
   lowest-fault k o =
-      sym (before-stop (even rows) k 17 (before-every (even rows) k (λ j l. ap not (even-row (rowAt rows j) (o .first j l)))) (ap not (odd-row (rowAt rows k) (o .odd))) (o .kind))
+      sym (before-stop (notOdd rows) k 17 (before-every (notOdd rows) k (λ j l. ap not (not-odd-row (rowAt rows j) (o .first j l)))) (ap not (odd-row (rowAt rows k) (o .odd))) (o .kind))
 
 -- DENOM with a kind exactly where LENT and ROW pass and that is the lowest such kind, whatever BAND and WEIGHT would say of any kind
 pub set-denom-exactly : (rows : List ℕ) (zs : List ℤ) (s t k : ℕ) → (replyOf (expandSet rows zs s t) ≡ 12 ∷ k ∷ []) ↔ ((setLent rows (length zs) s t ≡ true) × (checkReply (checkRows rows) ≡ 0 ∷ []) × Lowest rows k)
@@ -151,6 +152,17 @@ set-denom-exactly rows zs s t k = (
         (p, ap checkReply (sym (check-done rows (given rows (length zs) s t p .slots) (ltb-false (rowFault rows) 17 q))), fault-lowest rows k z (subst (λ (n : ℕ). n < 17) z (ltb-true (denomFault rows) 17 r)))
     go true false false p q r e = absurd (kinds-not rows zs 17 k (denom-only (kindsAnswer rows zs 17) k e))
     go false b c p q r e = absurd (differs 1 12 [] (k ∷ []) refl e)
+
+-- so it is given exactly where LENT and ROW pass and some kind is such a one
+pub set-denom-some : (rows : List ℕ) (zs : List ℤ) (s t : ℕ)
+    → ((k : ℕ) × (replyOf (expandSet rows zs s t) ≡ 12 ∷ k ∷ [])) ↔ ((setLent rows (length zs) s t ≡ true) × (checkReply (checkRows rows) ≡ 0 ∷ []) × ((k : ℕ) × (k < 17) × Odd (rowAt rows k)))
+set-denom-some rows zs s t = (
+  λ (k, e). let (p, q, o) = set-denom-exactly rows zs s t k .0 e in (p, q, (k, o .kind, o .odd)),
+  λ (p, q, (k, h, o)). (denomFault rows, set-denom-exactly rows zs s t (denomFault rows) .1 (p, q, fault-lowest rows (denomFault rows) refl (under k h o))),
+)
+  where
+    under : (k : ℕ) → k < 17 → Odd (rowAt rows k) → denomFault rows < 17
+    under k h o = ⊎-elim (λ l. l) (λ g. absurd (true≢false (sym (odd-row (rowAt rows k) o) ∙ denoms-above rows g k h))) (side (denomFault rows) 17)
 
 -- and it leaves both outputs as they were
 pub denom-keeps : (a : Expanded) (k : ℕ) (ws s : List Float) → replyOf a ≡ 12 ∷ k ∷ [] → leaves a ws s ≡ s

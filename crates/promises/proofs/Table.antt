@@ -114,7 +114,7 @@ module _ (d : ℕ) (z : ℤ) (fine : barred d ≡ false) (above : oddDenominator
   refuses : refused (weightOf (half d) z) ≡ true → Refuses d z
   refuses e = record {
     product = e;
-    replies = λ rows zs b lent ok even. set-refused rows zs d z b 394752 394752 lent ok even e;
+    replies = λ rows zs b lent ok high. set-refused rows zs d z b 394752 394752 lent ok high e;
     there = (rawFirst d, replicate n z, begins, whole-lent (rawFirst d) (replicate n z) (headed-length (rawRow d) zeroRow refl refl) (length-replicate n z ∙ whole), first-passes d fine, first-above d above);
     alone = λ row zs r. first-refused row zs d z r e;
     alone-there = one-row;

@@ -8,13 +8,13 @@ use Rattle.transform.specs.First.{before}
 use Rattle.transform.proofs.FirstLaws.{before-more, before-stop, before-all}
 use Rattle.matrix.specs.Raw.{oddRow}
 use Rattle.dequant.specs.Set.{denomFault}
-use Rattle.dequant.proofs.Lent.{even}
+use Rattle.dequant.proofs.Lent.{notOdd}
 use Rattle.dequant.proofs.Kindwise.{cut-row}
 use Rattle.dequant.proofs.set.first_odd.Statement.{statement}
 use Rattle.dequant.proofs.set.first_odd.Tie as tie
 
 abbrev Inv-loop : tie.InvT-loop
-Inv-loop rows k₀ k = (k ≤ 17) × (before (even rows) k ≡ k)
+Inv-loop rows k₀ k = (k ≤ 17) × (before (notOdd rows) k ≡ k)
 
 abbrev μ-loop : tie.MeasureT-loop
 μ-loop rows k₀ k = 17 - k
@@ -49,7 +49,7 @@ returns c =
     let rows = c .before .before .before .before .before .before .args .rows .now in
     let l = c .before .before .before .before .loop in
     let odd = sym (c .before .is-odd .ensures ∙ ap oddRow (cut-row (l .k) rows)) ∙ c .if1 .taken in
-    sym (before-stop (even rows) (l .k) 17 (l .inv .1) (ap not odd) (c .before .before .before .loop-test .taken))
+    sym (before-stop (notOdd rows) (l .k) 17 (l .inv .1) (ap not odd) (c .before .before .before .loop-test .taken))
 
 add-k : tie.Need-add-k Inv-loop μ-loop
 add-k c = omega arith
@@ -62,13 +62,13 @@ loop-again c =
     let rows = c .before .before .before .before .before .before .args .rows .now in
     let l = c .before .before .before .before .loop in
     let above = sym (c .before .is-odd .ensures ∙ ap oddRow (cut-row (l .k) rows)) ∙ c .if1 .left in
-    (omega arith, before-more (even rows) (l .k) (l .inv .1) (ap not above))
+    (omega arith, before-more (notOdd rows) (l .k) (l .inv .1) (ap not above))
 
 returns-2 : tie.Need-returns-2 Inv-loop μ-loop
 unfolding denomFault
 returns-2 c =
     let l = c .before .loop in
-    before-all (even (c .before .before .before .args .rows .now)) (l .k) 17 (l .inv .1) (l .inv .0) (omega arith)
+    before-all (notOdd (c .before .before .before .args .rows .now)) (l .k) 17 (l .inv .1) (l .inv .0) (omega arith)
 
 pub first-odd-spec : {M : Type 1} → statement M
 first-odd-spec =
