@@ -1,6 +1,6 @@
 -- Denominators of zero or below: by the bits of a half float; and of a row, by its mode. Assumes nothing.
 use mathlib.Core.Path.{_≡_, refl, sym, ap, _∙_, subst}
-use mathlib.Core.Bool.{Bool, true, false, _&&_, _||_}
+use mathlib.Core.Bool.{Bool, true, false, _&&_, _||_, and-true}
 use mathlib.Core.List.{List}
 use Prim.Native.Nat.{ℕ, zero, suc, _+_, _*_, _/_, _%_, _^_, _<_}
 use mathlib.Core.Logic.{⊎-elim}
@@ -25,11 +25,7 @@ minus zero z e = ap (λ (z : ℕ). ltb 0 (0 + z) || (eqb 0 z && (false || eqb 0 
 minus (suc n) z e = ap (λ (t : Bool). t || (eqb (suc n) z && (false || eqb (suc n) 0))) (lt-ltb 0 (suc n + z) (omega arith))
 
 plus : (n z : ℕ) → z ≡ 0 → (ltb n z || (eqb n z && (true || eqb n 0))) ≡ eqb n 0
-plus n z e = ap (λ (z : ℕ). ltb n z || (eqb n z && (true || eqb n 0))) e ∙ ap (λ (t : Bool). t || (eqb n 0 && true)) (le-ltb n 0 (omega arith)) ∙ go (eqb n 0)
-  where
-    go : (t : Bool) → (t && true) ≡ t
-    go true = refl
-    go false = refl
+plus n z e = ap (λ (z : ℕ). ltb n z || (eqb n z && (true || eqb n 0))) e ∙ ap (λ (t : Bool). t || (eqb n 0 && true)) (le-ltb n 0 (omega arith)) ∙ and-true (eqb n 0)
 
 pub le-nought : (s : Bool) (m : ℕ) (e : ℤ) → le (fin s m e) nought ≡ (s || eqb (m * up e) 0)
 unfolding le lt eq

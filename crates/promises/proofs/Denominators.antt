@@ -16,7 +16,7 @@ use lib.Ieee.{Float, nan, inf, fin, le, lt}
 use lib.Ieee.Exact.{HasValue}
 use lib.Ieee.Positive.{positive}
 use Rattle.transform.specs.Kinds.{areaOf, placesOf, startOf, part}
-use Rattle.transform.proofs.FirstLaws.{before-stop, before-every}
+use Rattle.transform.proofs.FirstLaws.{before-stop, before-every, passed-before, fails-at}
 use Rattle.transform.proofs.Laws.{side}
 use Rattle.bitstream.specs.Half.{half, barred}
 use Rattle.bitstream.proofs.HalfLaws.{half-exact}
@@ -37,7 +37,7 @@ use Rattle.dequant.specs.Set.{setLent, denomFault, kindsAnswer, expandSet}
 use Rattle.dequant.proofs.Kindwise.{mode-at, refusal-leaves}
 use Rattle.dequant.proofs.Lent.{given, notOdd, denoms-above, says-denom as set-says-denom}
 use Rattle.promises.proofs.ByNumber.{differs, denom-only}
-use Rattle.promises.proofs.RowsChecked.{done-fault, passed-before, fails-at}
+use Rattle.promises.proofs.RowsChecked.{done-fault}
 use Rattle.promises.proofs.RowRule.{rawRow}
 use Rattle.promises.proofs.Accepts.{lent-alone}
 use Rattle.promises.proofs.RawOnes.{raw-allowed}

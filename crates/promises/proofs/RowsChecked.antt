@@ -1,16 +1,16 @@
 -- The ROW check of a set by document 01's replies, each exactly when: LENT, DONE, and ROW with the first kind at fault. Assumes nothing.
 use mathlib.Core.Path.{_≡_, refl, sym, ap, _∙_, subst}
-use mathlib.Core.Logic.{_↔_, _⊎_, inl, inr, ⊎-elim}
+use mathlib.Core.Logic.{_↔_, _⊎_, inl, inr}
 use mathlib.Core.Bool.{Bool, true, false, cond, _&&_}
 use mathlib.Core.List.{List, [], _∷_}
-use Prim.Native.Nat.{ℕ, zero, suc, _≤_, _<_}
-use native.Mathlib.Nat.{le-of-eq, le-refl, eq-or-lt-of-le, le-of-suc-le-suc, not-suc-le-zero, lt-irrefl, lt-of-lt-of-le}
+use Prim.Native.Nat.{ℕ, _≤_, _<_}
+use native.Mathlib.Nat.{le-of-eq, le-refl, lt-of-lt-of-le}
 use native.Mathlib.Omega.{arith}
-use borrow.Author.Tests.{ne-eqb, eqb-true, eqb-false, ltb-true, ltb-false}
+use borrow.Author.Tests.{ne-eqb, eqb-true, ltb-true, ltb-false}
 use lib.Dec.{ltb, eqb}
 use lib.ListN.{length, getD}
 use Rattle.transform.specs.First.{before}
-use Rattle.transform.proofs.FirstLaws.{before-stop, before-every}
+use Rattle.transform.proofs.FirstLaws.{before-stop, before-every, passed-before, fails-at}
 use Rattle.params.specs.declared.rows.RowCheck.{RowCheck}
 use Rattle.params.specs.declared.rows.RowCheck.the-variants.{Done, Lent, Row}
 use Rattle.params.specs.Allowed.{entryRow, rowAllowed, rowAt, modeAt, flagFault, rowFault, checkRows, checkReply}
@@ -69,27 +69,6 @@ flag-off rows e =
 
 pub entries-pass : (rows : List ℕ) → length rows ≡ 2176 → ((k : ℕ) → k < 17 → entryRow k (rowAt rows k) ≡ true) → checkReply (checkRows rows) ≡ 0 ∷ []
 entries-pass rows l f = rows-pass rows l (flag-off rows (f 0 (omega arith))) (λ k h. sym (allowed-entry k (rowAt rows k) (omega arith) (f k h)))
-
--- ---- where a test first fails
-pub passed-before : (ok : ℕ → Bool) (n j : ℕ) → j < before ok n → ok j ≡ true
-unfolding before
-passed-before ok zero j h = absurd (not-suc-le-zero h)
-passed-before ok (suc n) j h = go (passed-before ok n j) (eqb (before ok n) n) (ok n) refl refl h
-  where
-    go : (j < before ok n → ok j ≡ true) → (a b : Bool) → eqb (before ok n) n ≡ a → ok n ≡ b → j < cond (a && b) (suc n) (before ok n) → ok j ≡ true
-    go r true true p q l = ⊎-elim (λ e. ap ok e ∙ q) (λ i. r (lt-of-lt-of-le i (le-of-eq (sym (eqb-true (before ok n) n p))))) (eq-or-lt-of-le (le-of-suc-le-suc l))
-    go r true false p q l = r l
-    go r false b p q l = r l
-
-pub fails-at : (ok : ℕ → Bool) (n : ℕ) → before ok n < n → ok (before ok n) ≡ false
-unfolding before
-fails-at ok zero h = absurd (not-suc-le-zero h)
-fails-at ok (suc n) h = go (fails-at ok n) (eqb (before ok n) n) (ok n) refl refl h
-  where
-    go : (before ok n < n → ok (before ok n) ≡ false) → (a b : Bool) → eqb (before ok n) n ≡ a → ok n ≡ b → cond (a && b) (suc n) (before ok n) < suc n → ok (cond (a && b) (suc n) (before ok n)) ≡ false
-    go r true true p q l = absurd (lt-irrefl (suc n) l)
-    go r true false p q l = ap ok (eqb-true (before ok n) n p) ∙ q
-    go r false b p q l = ⊎-elim (λ e. absurd (eqb-false (before ok n) n p e)) r (eq-or-lt-of-le (le-of-suc-le-suc l))
 
 -- ---- the ROW theorem of a set
 -- why kind k is the first at fault: slot 126 of row 0 is 1 while some mode isn't 0, and k is 0; else no reading, wherever it begins, writes its row, and one does for each kind before it
