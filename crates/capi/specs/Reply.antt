@@ -1,4 +1,4 @@
--- A reply as the C face gives it: document 01's number is the call's result, and the values stand in a lent slice of three places. Definitions only.
+-- A reply as the C face gives it: its number is the call's result, and the values stand in a lent slice of three places. Definitions only.
 use Prim.Native.Nat.{ℕ}
 use mathlib.Core.Bool.{Bool, cond}
 use mathlib.Core.List.{List, [], _∷_}

@@ -1,4 +1,4 @@
-// The C face: each call's reply is document 01's number, with its values in a lent slice of three places.
+// The C face: each call returns its reply's number, with the values in a lent slice of three places.
 mod header;
 mod jpeg;
 mod kind;

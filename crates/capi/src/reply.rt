@@ -1,4 +1,4 @@
-// The values of a reply, in the order of document 01's table.
+// The values of a reply, in the order of the table of replies.
 ghost use mathlib.Core.Path.{_≡_};
 ghost use mathlib.Core.List.{[], _∷_};
 ghost use lib.ListN.{length};
