@@ -11,6 +11,7 @@ use lib.ListN.{length, getD, take, drop}
 use lib.Ieee.{Float}
 use Rattle.transform.specs.Kinds.{areaOf}
 use Rattle.dequant.specs.Shown.{channelStart, found, shown, channelPart, named}
+use Rattle.dequant.specs.declared.shown.Order.{Order}
 use Rattle.dequant.specs.declared.shown.Order.the-variants.{Unnamed, Straight, Transposed}
 use Rattle.dequant.specs.Jpeg.{jpegAnswer, jpegValues, givenBy}
 use Rattle.dequant.specs.declared.jpeg.Jpeg.{Jpeg}
@@ -26,17 +27,13 @@ pub lookup-names : (s t : List Float) (k c o : ℕ) → o ≤ 2
 unfolding lookupReply shown
 lookup-names s t k c o h =
     ap (λ (x : Bool). partOf s t (cond (x && found k c (length s) (length t)) (partReply k c o) (1 ∷ []))) (le-leb o 2 h)
-    ∙ go (found k c (length s) (length t)) (eqb o 2) (eqb o 1)
+    ∙ go (found k c (length s) (length t)) (orderOf o)
   where
-    go : (f x y : Bool)
-        → take (getD (cond f (0 ∷ arenaOf (cond x Transposed (cond y Straight Unnamed)) ∷ channelStart k c ∷ areaOf k ∷ []) (1 ∷ [])) 3 0)
-        (drop (getD (cond f (0 ∷ arenaOf (cond x Transposed (cond y Straight Unnamed)) ∷ channelStart k c ∷ areaOf k ∷ []) (1 ∷ [])) 2 0)
-        (cond (eqb (getD (cond f (0 ∷ arenaOf (cond x Transposed (cond y Straight Unnamed)) ∷ channelStart k c ∷ areaOf k ∷ []) (1 ∷ [])) 1 0) 1) t s))
-        ≡ cond f (channelPart k c (named (cond x Transposed (cond y Straight Unnamed)) s t)) []
-    go true true y = refl
-    go true false true = refl
-    go true false false = refl
-    go false x y = refl
+    go : (f : Bool) (x : Order) → partOf s t (cond f (0 ∷ arenaOf x ∷ channelStart k c ∷ areaOf k ∷ []) (1 ∷ [])) ≡ cond f (channelPart k c (named x s t)) []
+    go true Unnamed = refl
+    go true Straight = refl
+    go true Transposed = refl
+    go false x = refl
 
 -- the part of the samples that a reply's two values name: where it starts, and how long it is
 abbrev pub samplesOf : List ℤ → List ℕ → List ℤ

@@ -4,7 +4,7 @@ use mathlib.Core.Bool.{_&&_, cond}
 use mathlib.Core.List.{List, [], _∷_}
 use lib.Dec.{leb, eqb}
 use Rattle.transform.specs.Kinds.{areaOf}
-use Rattle.dequant.specs.Shown.{channelStart, found}
+use Rattle.dequant.specs.Shown.{named, channelStart, found}
 use Rattle.dequant.specs.Jpeg.{jpegNumbers}
 use Rattle.dequant.specs.declared.jpeg.Jpeg.{Jpeg}
 use Rattle.dequant.specs.declared.jpeg.Jpeg.the-variants.{Done, Lent, Row, None}
@@ -17,9 +17,7 @@ orderOf o = cond (eqb o 2) Transposed (cond (eqb o 1) Straight Unnamed)
 
 -- the number of the arena that an order shows: 0 straight, 1 transposed
 abbrev pub arenaOf : Order → ℕ
-arenaOf Unnamed = 0
-arenaOf Straight = 0
-arenaOf Transposed = 1
+arenaOf o = named o 0 1
 
 -- the same by the order's number
 abbrev pub arenaNo : ℕ → ℕ
