@@ -4,7 +4,7 @@ use mathlib.Core.Path.{_≡_, refl, sym, ap, _∙_}
 use mathlib.Core.Bool.{Bool, true, false, cond, _&&_}
 use mathlib.Core.List.{List, [], _∷_}
 use Prim.Native.Nat.{ℕ, _+_, _*_, _≤_, _<_}
-use borrow.Author.Tests.{le-leb, lt-leb, lt-ltb}
+use borrow.Author.Tests.{le-leb, lt-leb, lt-ltb, ne-eqb}
 use lib.Dec.{ltb, eqb}
 use Rattle.transform.specs.Kinds.{areaOf, startOf}
 use Rattle.dequant.specs.Shown.{found}
@@ -14,14 +14,16 @@ use Rattle.dequant.specs.declared.jpeg.Jpeg.{Jpeg}
 use Rattle.dequant.specs.declared.shown.Order.the-variants.{Unnamed, Straight, Transposed}
 use Rattle.capi.specs.Parts.{arenaOf, arenaNo, partReply, lookupReply, jpegReply}
 
--- order 2 shows arena 1, every other order arena 0
-pub arena-is : (o : ℕ) (b : Bool) → eqb o 2 ≡ b → cond b 1 0 ≡ arenaNo o
-arena-is o b e = go b (eqb o 1) ∙ sym (ap (λ (x : Bool). arenaOf (cond x Transposed (cond (eqb o 1) Straight Unnamed))) e)
+-- order 1 shows arena 0, every other order arena 1
+pub straight-arena : (o : ℕ) → o ≡ 1 → 0 ≡ arenaNo o
+straight-arena o e = sym (ap (λ (i : ℕ). arenaNo i) e)
+
+pub other-arena : (o : ℕ) → (o ≡ 1 → ⊥) → 1 ≡ arenaNo o
+other-arena o h = go (eqb o 2) ∙ sym (ap (λ (x : Bool). arenaOf (cond (eqb o 2) Transposed (cond x Straight Unnamed))) (ne-eqb o 1 h))
   where
-    go : (x y : Bool) → cond x 1 0 ≡ arenaOf (cond x Transposed (cond y Straight Unnamed))
-    go true y = refl
-    go false true = refl
-    go false false = refl
+    go : (x : Bool) → 1 ≡ arenaOf (cond x Transposed Unnamed)
+    go true = refl
+    go false = refl
 
 module _ (s t k c o : ℕ) where
   pub unknown-order : 2 < o → 1 ∷ [] ≡ lookupReply s t k c o

@@ -9,13 +9,14 @@ ghost use Rattle.capi.specs.Parts.{arenaNo, lookupReply};
 ghost use Rattle.capi.specs.Reply.{returned, held};
 ghost use Rattle.capi.specs.Said.{saidOf};
 
+// The straight arena only where it is named.
 fn arena_no(order: u32) -> u64
     ensures { λ r. ⌜ r ≡ arenaNo order ⌝ }
 {
-    if order == 2 {
-        return 1;
+    if order == 1 {
+        return 0;
     }
-    0
+    1
 }
 
 // The part of a channel, in arenas of lengths s and t.
@@ -34,7 +35,7 @@ fn said_part(s: usize, t: usize, kind: usize, channel: usize, order: u32) -> Sai
     made(0, arena_no(order), first as u64, area as u64)
 }
 
-// Says where one channel of a kind stands in the order named: 0 none, 1 straight, 2 transposed. A slice cannot be handed to C, its numbers can.
+// Says where one channel of a kind stands in the order named: 0 none, which shows what 2 does, 1 straight, 2 transposed. A slice cannot be handed to C, its numbers can.
 #[no_mangle]
 pub extern "C" fn dequant_lookup(
     straight: &[f32],

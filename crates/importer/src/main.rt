@@ -1,5 +1,5 @@
 // Cuts keys: expands the header on standard input, at most 2,550 bytes, and writes for each kind and channel the first row of
-// what lookup shows with no order named: eight hexadecimal digits for a weight, commas between them.
+// what lookup shows in the straight order: eight hexadecimal digits for a weight, commas between them.
 use libc::STDIN_FILENO;
 
 fn main() {

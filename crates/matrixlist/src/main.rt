@@ -1,5 +1,5 @@
 // Lists matrices: expands the header on standard input, at most 2,550 bytes, and writes for each kind and channel, of what lookup
-// shows with no order named, the 64-bit total of bits x (place + 1) and the bits of the four corner weights.
+// shows in the straight order, the 64-bit total of bits x (place + 1) and the bits of the four corner weights.
 use libc::STDIN_FILENO;
 
 fn main() {

@@ -19,7 +19,7 @@ use Rattle.dequant.specs.Shown.{shown}
 use Rattle.dequant.proofs.Kindwise.{mode-at}
 use Rattle.promises.proofs.Arena.{part-get}
 use Rattle.promises.proofs.AcceptedSet.{kind-done}
-use Rattle.promises.proofs.Shows.{in-straight, in-transposed, shown-straight, shown-unnamed, shown-transposed}
+use Rattle.promises.proofs.Shows.{in-straight, in-transposed, shown-straight, shown-transposed, shown-unnamed}
 
 -- a set that is expanded, with a raw kind whose samples all lie between -65,535 and 65,535
 pub record RawSet (k : ℕ) (rows : List ℕ) (zs : List ℤ) (s t : List Float) : Type 0 where
@@ -56,15 +56,15 @@ module _ (k c y x : ℕ) (hk : k < 17) (hc : c < 3) (hy : y < heightOf k) (hx : 
     pub transposed-apart : getD (transposedArena rows us) (startOf k + transposedPlace k c y x) nan ≡ getD (transposedArena rows' vs) (startOf k + transposedPlace k c y x) nan → ⊥
     transposed-apart e = weights-differ (sym (in-transposed rows us k c y x hk hc hy hx) ∙ e ∙ in-transposed rows' vs k c y x hk hc hy hx)
 
-    -- in what lookup shows: straight, with no order named, and transposed
+    -- in what lookup shows: straight, transposed, and with no order named
     pub shown-apart : getD (shown (straightArena rows us) (transposedArena rows us) k c Straight) (y * widthOf k + x) nan
         ≡ getD (shown (straightArena rows' vs) (transposedArena rows' vs) k c Straight) (y * widthOf k + x) nan → ⊥
     shown-apart e = straight-apart (sym (shown-straight rows us k c y x hk hc hy hx) ∙ e ∙ shown-straight rows' vs k c y x hk hc hy hx)
 
-    pub unnamed-apart : getD (shown (straightArena rows us) (transposedArena rows us) k c Unnamed) (y * widthOf k + x) nan
-        ≡ getD (shown (straightArena rows' vs) (transposedArena rows' vs) k c Unnamed) (y * widthOf k + x) nan → ⊥
-    unnamed-apart e = straight-apart (sym (shown-unnamed rows us k c y x hk hc hy hx) ∙ e ∙ shown-unnamed rows' vs k c y x hk hc hy hx)
-
     pub mirror-apart : getD (shown (straightArena rows us) (transposedArena rows us) k c Transposed) (x * heightOf k + y) nan
         ≡ getD (shown (straightArena rows' vs) (transposedArena rows' vs) k c Transposed) (x * heightOf k + y) nan → ⊥
     mirror-apart e = transposed-apart (sym (shown-transposed rows us k c y x hk hc hy hx) ∙ e ∙ shown-transposed rows' vs k c y x hk hc hy hx)
+
+    pub unnamed-apart : getD (shown (straightArena rows us) (transposedArena rows us) k c Unnamed) (x * heightOf k + y) nan
+        ≡ getD (shown (straightArena rows' vs) (transposedArena rows' vs) k c Unnamed) (x * heightOf k + y) nan → ⊥
+    unnamed-apart e = transposed-apart (sym (shown-unnamed rows us k c y x hk hc hy hx) ∙ e ∙ shown-unnamed rows' vs k c y x hk hc hy hx)

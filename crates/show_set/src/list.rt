@@ -1,4 +1,4 @@
-// What programs list of a header's set: for each kind and channel a line on what lookup shows with no order named.
+// What programs list of a header's set: for each kind and channel a line on its straight part.
 use crate::expand_header;
 use dequant::Order;
 use show_weights::item;
@@ -60,7 +60,7 @@ fn show_channel<'a>(
     keys: bool,
 ) {
     let k = Kind { no: kind };
-    let part = dequant::lookup(straight, transposed, kind, channel, Order::Unnamed);
+    let part = dequant::lookup(straight, transposed, kind, channel, Order::Straight);
     show_part(part, k.width(), keys);
 }
 
