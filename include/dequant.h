@@ -34,6 +34,7 @@ enum dequant_reply {
     DEQUANT_DENOM = 12   /* kind: the lowest that is raw with a denominator of zero or below, whatever its samples; nothing changed */
 };
 
+/* With no order named a lookup shows the transposed part. */
 enum dequant_order { DEQUANT_UNNAMED = 0, DEQUANT_STRAIGHT = 1, DEQUANT_TRANSPOSED = 2 };
 
 /* Reads a header from a bit: at kind 0 from the flag, at kinds 1 to 16 from that kind's mode. DONE: the next bit. */

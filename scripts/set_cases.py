@@ -1,6 +1,7 @@
 #!/usr/bin/env python3
 """Makes crates/set_cases/stdin and crates/set_cases/stdout from the vectors of tests/vectors with call=expand, expand_kind, lookup, jpeg,
-importer or matrixlist, and from a few runs of documents 01 and 02. A vector with reply_len is for the C face alone.
+importer or matrixlist, and from a few runs of documents 01 and 02. A vector with reply_len, or with the number of no order, is for the
+C face alone; one that has only the digest of what a program lists is for scripts/listings.py.
 
 A vector is a text file of key=value lines: row.K (the rows, each without the zeros at its end), samples (none, const:V or
 lin:A,B,M: sample p is A + p*B mod M; behind it P=V for each sample that stands apart), kind, channel, order, rows_len,
@@ -19,7 +20,7 @@ CRATE = os.path.join(ROOT, "crates", "set_cases")
 ARENA = 394752
 AREAS = [64, 64, 64, 64, 256, 1024, 128, 256, 512, 64, 64, 4096, 2048, 16384, 8192, 65536, 32768]
 CALLS = {"expand": 0, "lookup": 1, "jpeg": 2, "expand_kind": 3, "importer": 4, "matrixlist": 5}
-ORDERS = {"none": 0, "straight": 1, "transposed": 2}
+ORDERS = {"none": 0, "straight": 1, "transposed": 2, "0": 0, "1": 1, "2": 2}
 
 
 def load(path):
@@ -60,13 +61,15 @@ def total(weights):
 
 def part_of_arena(v):
     kind, channel = int(v["kind"]), int(v["channel"])
-    if v["want.part"] == "empty":
+    if "empty" == v.get("want.part") or "1" == v.get("want.reply"):
         return "part=0"
+    arena = 0 if ORDERS[v["order"]] == 1 else 1
     start = sum(3 * a for a in AREAS[:kind]) + channel * AREAS[kind]
-    start += 0x40000000 if v["order"] == "transposed" else 0
-    part = range(start, start + AREAS[kind])
+    # document 02's vectors say the arena, the first place and the length
+    assert v.get("want.reply", "") in ("", "0 %d %d %d" % (arena, start, AREAS[kind]))
+    part = range(0x40000000 * arena + start, 0x40000000 * arena + start + AREAS[kind])
     digest = hashlib.sha256(array.array("I", part).tobytes()).hexdigest()
-    assert v["want.part"] == "%d %s first %x last %x" % (len(part), digest, part[0], part[-1])
+    assert v.get("want.part", "") in ("", "%d %s first %x last %x" % (len(part), digest, part[0], part[-1]))
     # the program's arenas count up from 0 and from 2^20, as numbers
     shown = [bits(x - 0x40000000 + 0x100000 if x >= 0x40000000 else x) for x in part]
     return "part=%d %08x %08x %d" % (len(part), shown[0], shown[-1], total(shown))
@@ -159,11 +162,16 @@ def runs():
     yield "band", {**band, "row.16": "7,0,0,3c00", "want.reply": "7 0 1 1", "want.straight": "zero", "want.transposed": "zero"}
 
 
+def for_the_library(v):
+    """whether the vector is one of ours, and its wanted text, if it has any, stands in it"""
+    return v["call"] in CALLS and "reply_len" not in v and v.get("order", "none") in ORDERS and ("want.text.sha256" not in v or "want.text" in v)
+
+
 def main():
     vectors = []
     for name in sorted(os.listdir(VECTORS)):
         v = load(os.path.join(VECTORS, name))
-        if v["call"] in CALLS and "reply_len" not in v:
+        if for_the_library(v):
             vectors.append((name.rsplit(".", 1)[0], v))
     vectors += runs()
     at = 4 + 4 * len(vectors)

@@ -54,7 +54,7 @@ fn matrices(report: &mut Report, set: &Set, theirs: &DequantMatrixSet, input: &d
         for channel in 0..3 {
             let look = |order| dequant::lookup(&set.straight, &set.transposed, kind, channel, order);
             let (mine, other) = (look(Order::Straight), look(Order::Transposed));
-            report.check(look(Order::Unnamed).as_ptr() == mine.as_ptr(), "no order named is straight", input);
+            report.check(look(Order::Unnamed).as_ptr() == other.as_ptr(), "no order named is transposed", input);
             report.check(turned(width, height, mine, other), "our transpose", input);
             let (straight, transposed) = (theirs.get(channel, names[0]), theirs.get_transposed(channel, names[0]));
             weights::channel(report, kind, set.row(kind), mine, straight, input);

@@ -98,7 +98,7 @@ impl Reply {
 /// The order in which a matrix is shown.
 #[derive(Debug, Clone, Copy, PartialEq, Eq)]
 pub enum Order {
-    /// No order named: as [`Order::Straight`].
+    /// No order named: as [`Order::Transposed`].
     Unnamed,
     /// Row by row.
     Straight,
