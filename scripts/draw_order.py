@@ -32,12 +32,13 @@ def grid(words, width, height, left, least, most):
 
 
 def main():
-    head, straight, transposed = (line.split() for line in sys.stdin)
+    head, straight, transposed, unnamed = (line.split() for line in sys.stdin)
     kind, channel, width, height = map(int, head)
+    named = {tuple(straight): "straight", tuple(transposed): "transposed"}[tuple(unnamed)]
     weights = [value(w) for w in straight]
     least, most = min(weights), max(weights)
     right = LEFT + width * CELL + GAP
-    tall = TOP + max(width, height) * CELL + 76
+    tall = TOP + max(width, height) * CELL + 98
     wide = max(right + height * CELL + LEFT, 560)
     out = [f'<svg xmlns="http://www.w3.org/2000/svg" width="{wide}" height="{tall}" viewBox="0 0 {wide} {tall}">',
            f'<rect width="{wide}" height="{tall}" fill="#fff"/>',
@@ -50,6 +51,7 @@ def main():
     out += [text(LEFT, low, "a key cut from the first row:", KEY),
             text(LEFT, low + 20, "straight " + " ".join(straight[:5]) + " ..", size=12),
             text(LEFT, low + 38, "transposed " + " ".join(transposed[:5]) + " ..", size=12),
+            text(LEFT, low + 60, f"A lookup that names no order shows the {named} matrix."),
             "</svg>"]
     print("\n".join(out))
 
