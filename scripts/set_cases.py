@@ -61,7 +61,7 @@ def total(weights):
 
 def part_of_arena(v):
     kind, channel = int(v["kind"]), int(v["channel"])
-    if "empty" == v.get("want.part") or "1" == v.get("want.reply"):
+    if v.get("want.part") == "empty" or v.get("want.reply") == "1":
         return "part=0"
     arena = 0 if ORDERS[v["order"]] == 1 else 1
     start = sum(3 * a for a in AREAS[:kind]) + channel * AREAS[kind]
@@ -163,8 +163,9 @@ def runs():
 
 
 def for_the_library(v):
-    """whether the vector is one of ours, and its wanted text, if it has any, stands in it"""
-    return v["call"] in CALLS and "reply_len" not in v and v.get("order", "none") in ORDERS and ("want.text.sha256" not in v or "want.text" in v)
+    """whether the program can make the vector's call, and what it wants of a text is the text and not its digest alone"""
+    can_ask = v["call"] in CALLS and "reply_len" not in v and v.get("order", "none") in ORDERS
+    return can_ask and ("want.text" in v or "want.text.sha256" not in v)
 
 
 def main():

@@ -41,9 +41,9 @@ static void expanding(void) {
     check(transposed[4736 + 9] == straight[4736 + 17], "kind 6, place 17 straight is 9 transposed");
     check(dequant_lookup(straight, DEQUANT_ARENA, transposed, DEQUANT_ARENA, 6, 1, DEQUANT_UNNAMED, reply, 3) == 0 && says(1, 4736, 128), "no order named");
     check(dequant_lookup(straight, DEQUANT_ARENA, transposed, DEQUANT_ARENA, 6, 1, DEQUANT_STRAIGHT, reply, 3) == 0 && says(0, 4736, 128), "the straight order");
-    check(dequant_lookup(straight, DEQUANT_ARENA, transposed, DEQUANT_ARENA, 6, 1, DEQUANT_UNNAMED, reply, 2) == DEQUANT_LENT && says(0, 4736, 128), "a reply of two places, looking up");
-    check(dequant_lookup(straight, DEQUANT_ARENA, transposed, DEQUANT_ARENA, 6, 1, 3, reply, 3) == DEQUANT_LENT && says(0, 0, 0), "an unknown order");
-    check(dequant_lookup(straight, DEQUANT_ARENA, transposed, DEQUANT_ARENA, 6, 1, UINT32_MAX, reply, 3) == DEQUANT_LENT, "order 2^32 - 1");
+    check(dequant_lookup(straight, DEQUANT_ARENA, transposed, DEQUANT_ARENA, 6, 0, DEQUANT_UNNAMED, reply, 2) == DEQUANT_LENT && says(0, 4736, 128), "a reply of two places, looking up");
+    check(dequant_lookup(straight, DEQUANT_ARENA, transposed, DEQUANT_ARENA, 3, 0, 3, reply, 3) == DEQUANT_LENT && says(0, 0, 0), "an unknown order");
+    check(dequant_lookup(straight, DEQUANT_ARENA, transposed, DEQUANT_ARENA, 3, 0, UINT32_MAX, reply, 3) == DEQUANT_LENT, "order 2^32 - 1");
     check(dequant_jpeg_quant_values(rows, DEQUANT_ROWS, samples, DEQUANT_ARENA, 2, reply, 3) == DEQUANT_DONE && says(128, 64, 0), "JPEG values");
     samples[70] = 0;
     check(dequant_expand_kind(0, rows, DEQUANT_ROW, samples, 192, straight, 192, transposed, 192, reply, 3) == DEQUANT_WEIGHT && says(0, 1, 6), "a zero sample");
