@@ -156,7 +156,8 @@ pub fn expand(rows: &[u16], samples: &[i32], straight: &mut [f32], transposed: &
     })
 }
 
-/// Shows one channel of a kind in the order named: a part of one of the two arenas, empty for bad arguments.
+/// Shows one channel of a kind in the order named, and transposed where none is: a part of one of the two arenas, empty for bad
+/// arguments.
 #[rustfmt::skip]
 pub fn lookup<'a>(straight: &'a [f32], transposed: &'a [f32], kind: usize, channel: usize, order: Order) -> &'a [f32] {
     let (_, [arena, first, length]) = ask(|r, n| unsafe {
