@@ -11,6 +11,7 @@ use lib.IntN.{ℤ}
 use lib.ListN.{length}
 use lib.Ieee.{Float}
 use Rattle.transform.specs.Kinds.{placesOf, part}
+use Rattle.transform.proofs.PartLaws.{part-length}
 use Rattle.params.specs.Allowed.{rowAt, rowFault}
 use Rattle.matrix.specs.Mirror.{mirror}
 use Rattle.matrix.specs.Weight.{weightsOf}
@@ -21,7 +22,7 @@ use Rattle.promises.proofs.Places.{both}
 use Rattle.dequant.specs.Set.{straightOf, transposedOf, straightArena, transposedArena, setLent, denomFault, kindsAnswer, expandSet}
 use Rattle.dequant.specs.Views.{Fit}
 use Rattle.dequant.proofs.Lent.{fits}
-use Rattle.dequant.proofs.Kindwise.{part-length, handed, straight-length, transposed-length}
+use Rattle.dequant.proofs.Kindwise.{handed, straight-length, transposed-length}
 use Rattle.promises.proofs.Arena.{part-is}
 
 pub record Accepted (rows : List ℕ) (zs : List ℤ) (s t : ℕ) : Type 0 where

@@ -19,7 +19,7 @@ use Rattle.bands.specs.Bands.{one}
 use Rattle.bands.proofs.Units.{Units, div-units}
 use Rattle.bands.proofs.Position.{rescale}
 use Rattle.bands.proofs.Rounding.{largest, Near32, near32}
-use Rattle.matrix.proofs.Chain.{right}
+use Rattle.transform.proofs.Chain.{right}
 use Rattle.dequant.specs.Jpeg.{jpegNumbers, roundsTo, jpegDenominator, jpegAnswer}
 use Rattle.dequant.proofs.JpegLaws.{done-says}
 use Rattle.promises.proofs.ByNumber.{jpeg-done}

@@ -27,7 +27,7 @@ use Rattle.bands.proofs.Halves.{half-held, half-mild, first64, first-held, firs
 use Rattle.matrix.specs.declared.numbers.Numbers.{Numbers}
 use Rattle.matrix.specs.Defaults.{defaultMode, defaultFirst, defaultSecond}
 use Rattle.matrix.specs.Numbers.{each, readNumbers, defaultNumbers, defaultValue, numbersOf, numberOf, count, begins, opening, times64, bandNumber, listOf}
-use Rattle.matrix.proofs.Chain.{left, right}
+use Rattle.transform.proofs.Chain.{left, right}
 use Rattle.matrix.proofs.RowFacts.{facts}
 
 -- ---- they all stand among the 123 values
