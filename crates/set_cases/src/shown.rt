@@ -40,10 +40,10 @@ pub(crate) fn show_reply(r: Expanded) {
 }
 
 // Whether each weight has these bits.
-fn all_of(part: &[f32], bits: u64) -> bool {
+fn all_of(part: &[f32], bits: u32) -> bool {
     let mut i = 0;
     while i < part.len() {
-        if show_weights::bits(part[i]) != bits {
+        if total::bits(part[i]) != bits {
             return false;
         }
         i += 1;

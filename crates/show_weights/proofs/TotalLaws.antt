@@ -7,7 +7,7 @@ use native.Mathlib.Omega.{arith}
 use lib.Ieee.{Float, nan, binary32, toBits}
 use lib.ListN.{length, getD, drop}
 use lib.Seq.{drop-length, drop-cons}
-use Rattle.show_weights.specs.Total.{sumFrom, totalOf}
+use Rattle.total.specs.Total.{sumFrom, totalFrom}
 
 -- the sum of the bits
 abbrev bitsIn : List Float → ℕ
@@ -23,11 +23,11 @@ further p (x ∷ l) = omega (arith, further (p + 1) l)
 -- what the two sums are of some weights
 pub record Summed (l : List Float) (running sum : ℕ) : Type 0 where
   pub bits : running ≡ bitsIn l % 2 ^ 64
-  pub total : sum ≡ totalOf l
+  pub total : sum ≡ totalFrom 0 l
 
 -- one weight more, before the others
 before : (x : Float) (l : List Float) (r s r' s' : ℕ) → Summed l r s → r' ≡ (r + toBits binary32 x) % 2 ^ 64 → s' ≡ (s + r') % 2 ^ 64 → Summed (x ∷ l) r' s'
-unfolding sumFrom
+unfolding sumFrom totalFrom
 before x l r s r' s' k e f = record { bits = b; total = rw (f, b, k .total) (sym (add-mod (sumFrom 0 l) (bitsIn (x ∷ l)) (2 ^ 64)) ∙ ap (λ (n : ℕ). n % 2 ^ 64) (omega (arith, further 0 l))) }
   where
     b : r' ≡ bitsIn (x ∷ l) % 2 ^ 64
@@ -35,7 +35,7 @@ before x l r s r' s' k e f = record { bits = b; total = rw (f, b, k .total) (sym
 
 -- none yet
 pub summed-none : (l : List Float) → Summed (drop (length l) l) 0 0
-unfolding sumFrom
+unfolding sumFrom totalFrom
 summed-none l = rw drop-length (record { bits = refl; total = refl })
 
 -- the weight at place i too
@@ -43,6 +43,6 @@ pub summed-more : (l : List Float) (j i r s r' s' : ℕ) → i < length l → j 
 summed-more l j i r s r' s' h e k f g = rw (drop-cons l i nan) (before (getD l i nan) (drop (suc i) l) r s r' s' (subst (λ (n : ℕ). Summed (drop n l) r s) e k) f g)
 
 -- all of them
-pub summed-all : (l : List Float) (i r s : ℕ) → i ≤ 0 → Summed (drop i l) r s → s ≡ totalOf l
+pub summed-all : (l : List Float) (i r s : ℕ) → i ≤ 0 → Summed (drop i l) r s → s ≡ totalFrom 0 l
 summed-all l zero r s h k = k .total
 summed-all l (suc i) r s h k = absurd (omega arith)

@@ -1,36 +1,20 @@
 // What programs write of weights. Which functions have a contract: see the head of `show`.
 use libc::STDOUT_FILENO;
 ghost use mathlib.Core.Path.{_≡_};
-ghost use lib.Ieee.{binary32, toBits};
-ghost use Rattle.show_weights.specs.Total.{totalOf};
+ghost use Rattle.total.specs.Total.{totalFrom};
 
-fn wide(x: u32) -> u64
-    ensures { λ r. ⌜ r ≡ x ⌝ }
-{
-    x as u64
-}
-
-// A weight's bits; those of a NaN are 7fc00000, as the logic's `toBits` has them.
-pub fn bits(x: f32) -> u64
-    ensures { λ r. ⌜ r ≡ toBits binary32 x ⌝ }
-{
-    if x != x {
-        return 0x7fc00000;
-    }
-    wide(f32::to_bits(x))
-}
-
-// The 64-bit total of bits x (place + 1), wrapping round: from the last place on, each weight's bits are in the running
-// sum once for each place up to its own.
+// The total of weights whose first place is 0, of any number of them: from the last place on, each weight's bits are in the
+// running sum once for each place up to its own.
 pub fn total(part: &[f32]) -> u64
-    ensures { λ r. ⌜ r ≡ totalOf (now (part .entry)) ⌝ }
+    ensures { λ r. ⌜ r ≡ totalFrom 0 (now (part .entry)) ⌝ }
 {
     let mut running: u64 = 0;
     let mut sum: u64 = 0;
     let mut i = part.len();
     while i > 0 {
         i -= 1;
-        running = std::num::wrapping_add_u64(running, bits(part[i]));
+        let bits = total::bits(part[i]) as u64;
+        running = std::num::wrapping_add_u64(running, bits);
         sum = std::num::wrapping_add_u64(sum, running);
     }
     sum
@@ -38,7 +22,7 @@ pub fn total(part: &[f32]) -> u64
 
 // A weight's bits, as eight hexadecimal digits.
 fn weight(x: f32) {
-    io::print_hex(STDOUT_FILENO, bits(x), 8);
+    io::print_hex(STDOUT_FILENO, total::bits(x) as u64, 8);
 }
 
 // A weight, a comma before each but the first.

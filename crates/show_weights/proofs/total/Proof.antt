@@ -29,6 +29,9 @@ shared-slice-read-bits c = search needs
 bits-requires : tie.Need-bits-requires Inv-loop μ-loop
 bits-requires c κs = search needs
 
+cast-bits : tie.Need-cast-bits Inv-loop μ-loop
+cast-bits c = search needs
+
 wrapping-add-u64-requires : tie.Need-wrapping-add-u64-requires Inv-loop μ-loop
 wrapping-add-u64-requires c κs = search needs
 
@@ -57,6 +60,7 @@ total-spec =
     mul-bits
     shared-slice-read-bits
     bits-requires
+    cast-bits
     wrapping-add-u64-requires
     wrapping-add-u64-requires-2
     loop-less
