@@ -6,6 +6,7 @@ mod lines;
 mod reply;
 mod set;
 mod shown;
+mod totals;
 
 pub use header::dequant_read_header;
 pub use jpeg::dequant_jpeg_quant_values;
@@ -14,3 +15,5 @@ pub use lines::dequant_read_record;
 pub use lines::dequant_write_record;
 pub use set::dequant_expand;
 pub use shown::dequant_lookup;
+pub use totals::dequant_replace_kind;
+pub use totals::dequant_total;

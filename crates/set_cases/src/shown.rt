@@ -51,29 +51,6 @@ fn all_of(part: &[f32], bits: u32) -> bool {
     true
 }
 
-fn show_place(part: &[f32], place: usize) {
-    show::comma();
-    show::decimal(place as u64);
-    show::text(b":");
-    show_weights::weight_at(part, place);
-}
-
-fn show_places(part: &[f32], places: &[u8]) {
-    let n = places.len() / 4;
-    let mut i = 0;
-    while i < n {
-        show_place(part, show::word(places, i) as usize);
-        i += 1;
-    }
-}
-
-// The total, and the weights at the places.
-fn show_weights(part: &[f32], places: &[u8]) {
-    show::decimal(show_weights::total(part));
-    show_places(part, places);
-    show::end();
-}
-
 // An arena: unchanged, zero, or its weights.
 fn show_arena(part: &[f32], places: &[u8]) {
     if all_of(part, 0xdeadbeef) {
@@ -84,7 +61,7 @@ fn show_arena(part: &[f32], places: &[u8]) {
         show::text(b"zero\n");
         return;
     }
-    show_weights(part, places);
+    show_weights::summary(part, places);
 }
 
 pub(crate) fn show_arenas(places: &[u8], straight: &[f32], transposed: &[f32]) {

@@ -39,3 +39,27 @@ pub fn weight_at(part: &[f32], i: usize) {
         weight(part[i]);
     }
 }
+
+fn place(part: &[f32], i: usize) {
+    show::comma();
+    show::decimal(i as u64);
+    show::text(b":");
+    weight_at(part, i);
+}
+
+// The weights at the places of a list of words, each behind a comma.
+fn places(part: &[f32], list: &[u8]) {
+    let n = list.len() / 4;
+    let mut i = 0;
+    while i < n {
+        place(part, show::word(list, i) as usize);
+        i += 1;
+    }
+}
+
+// The total, the weights at the places of a list, and a line end.
+pub fn summary(part: &[f32], list: &[u8]) {
+    show::decimal(total(part));
+    places(part, list);
+    show::end();
+}
