@@ -20,7 +20,7 @@ extern "C" {
 
 enum dequant_reply {
     DEQUANT_DONE = 0,    /* finished; its values: see each call */
-    DEQUANT_LENT = 1,    /* a wrong length, kind > 16 or channel > 2; nothing changed */
+    DEQUANT_LENT = 1,    /* a wrong length, kind > 16, channel > 2 or a stretch that leaves its arena; nothing changed */
     DEQUANT_SHORT = 2,   /* kind, bit, lacks: the field there runs past the last bit, so many of its bits are not there; rows of earlier kinds are written */
     DEQUANT_MODE = 3,    /* kind, bit: mode not allowed for the kind; rows as SHORT */
     DEQUANT_FLOAT = 4,   /* kind, bit: a number with exponent 31; rows as SHORT */
@@ -69,6 +69,17 @@ uint32_t dequant_write_record(const uint16_t *rows, size_t rows_length, const in
 /* Reads a text record; samples of kinds that are not raw stay. */
 uint32_t dequant_read_record(const uint8_t *text, size_t text_length, uint16_t *rows, size_t rows_length,
                              int32_t *samples, size_t samples_length, uint64_t *reply, size_t reply_length);
+
+/* Says the total of a stretch of an arena, straight or transposed: of `count` places from `first` on, the 32 bits of each weight times its
+   place in the arena plus 1, summed up modulo 2^64; a NaN counts with the bits 7fc00000. DONE: the total. LENT: an arena of another length,
+   or a stretch that leaves it. The totals of neighbouring stretches add up to that of the whole, modulo 2^64, in any grouping and order.
+   Arenas with different totals differ; arenas with the same total may differ too. */
+uint32_t dequant_total(const float *arena, size_t arena_length, size_t first, size_t count, uint64_t *reply, size_t reply_length);
+
+/* Replaces the weights of one kind, all 3 x width x height of them. DONE: the arena's new total, if `total` was the old one. LENT: a wrong
+   length, or kind > 16; the arena is as it was. */
+uint32_t dequant_replace_kind(float *arena, size_t arena_length, uint64_t total, size_t kind, const float *weights, size_t weights_length,
+                              uint64_t *reply, size_t reply_length);
 
 #ifdef __cplusplus
 }

@@ -67,9 +67,34 @@ static void records(void) {
     check(!memcmp(rows, rows2, sizeof rows) && !memcmp(samples, samples2, 192 * sizeof *samples), "a record reads back");
 }
 
+static void totals(void) {
+    uint64_t whole, first;
+    for (int i = 0; i < DEQUANT_ARENA; i++)
+        straight[i] = transposed[i] = (float)(i + 1);
+    check(dequant_total(straight, DEQUANT_ARENA, 0, DEQUANT_ARENA, reply, 3) == DEQUANT_DONE, "an arena's total");
+    whole = reply[0];
+    check(dequant_total(straight, DEQUANT_ARENA, 0, 100, reply, 3) == DEQUANT_DONE, "a stretch");
+    first = reply[0];
+    check(dequant_total(straight, DEQUANT_ARENA, 100, DEQUANT_ARENA - 100, reply, 3) == DEQUANT_DONE && says(whole - first, 0, 0), "the stretch beside it");
+    check(dequant_total(straight, DEQUANT_ARENA, 1, 1, reply, 3) == DEQUANT_DONE && says(2 * 0x40000000ull, 0, 0), "2.0 at place 1");
+    check(dequant_total(straight, DEQUANT_ARENA, 1, SIZE_MAX, reply, 3) == DEQUANT_LENT && says(0, 0, 0), "a stretch of 2^64 - 1");
+    reply[0] = 5;
+    check(dequant_total(straight, DEQUANT_ARENA, 0, 5, reply, 4) == DEQUANT_LENT && says(5, 0, 0), "a reply of four places, counting");
+    for (int i = 0; i < 384; i++)
+        transposed[i] = -1.0f;
+    check(dequant_replace_kind(straight, DEQUANT_ARENA, whole, 6, transposed, 384, reply, 3) == DEQUANT_DONE && straight[4608] == -1.0f && straight[4991] == -1.0f, "kind 6 replaced");
+    check(straight[4607] == 4608.0f && straight[4992] == 4993.0f, "its neighbours stay");
+    whole = reply[0];
+    check(dequant_total(straight, DEQUANT_ARENA, 0, DEQUANT_ARENA, reply, 3) == DEQUANT_DONE && says(whole, 0, 0), "its total is a fresh count's");
+    check(dequant_replace_kind(straight, DEQUANT_ARENA, whole, 0, transposed, 191, reply, 3) == DEQUANT_LENT && straight[0] == 1.0f, "191 weights for 192");
+    reply[0] = 5;
+    check(dequant_replace_kind(straight, DEQUANT_ARENA, 1, 0, transposed, 192, reply, 0) == DEQUANT_LENT && reply[0] == 5 && straight[0] == 1.0f, "a reply of no place, replacing");
+}
+
 int main(void) {
     reading();
     expanding();
     records();
+    totals();
     return failed;
 }

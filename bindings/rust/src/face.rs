@@ -31,4 +31,11 @@ extern "C" {
         text: *const u8, text_len: usize, rows: *mut u16, rows_len: usize,
         samples: *mut i32, samples_len: usize, reply: *mut u64, reply_len: usize,
     ) -> u32;
+    pub fn dequant_total(
+        arena: *const f32, arena_len: usize, first: usize, count: usize, reply: *mut u64, reply_len: usize,
+    ) -> u32;
+    pub fn dequant_replace_kind(
+        arena: *mut f32, arena_len: usize, total: u64, kind: usize, weights: *const f32, weights_len: usize,
+        reply: *mut u64, reply_len: usize,
+    ) -> u32;
 }

@@ -1,8 +1,8 @@
 //! The dequantisation matrices of JPEG XL, from a library whose every function is proved to meet its contract.
 //!
 //! A header is read into *rows* (17 kinds of 128 numbers), rows and the samples of raw kinds are expanded into
-//! two *arenas* of weights, straight and transposed, and a lookup shows a part of one of them. Nothing is
-//! allocated: the caller lends every slice. Each call answers with a [`Reply`], and what a refusal leaves in the
+//! two *arenas* of weights, straight and transposed, and a lookup shows a part of one of them. Beside an arena goes its
+//! *total*, one number to compare first. Nothing is allocated: the caller lends every slice. Each call answers with a [`Reply`], and what a refusal leaves in the
 //! lent slices is fixed: see each function.
 //!
 //! ```
@@ -44,9 +44,9 @@ pub fn start(kind: usize) -> usize {
 #[derive(Debug, Clone, Copy, PartialEq, Eq, Hash)]
 #[rustfmt::skip]
 pub enum Reply {
-    /// 0: the call finished. Reading a header: the next bit. Writing a record: its length. Else 0.
+    /// 0: the call finished. Reading a header: the next bit. Writing a record: its length. Counting and replacing: the total. Else 0.
     Done(u64),
-    /// 1: a lent slice has a wrong length, or kind or channel is out of range. Nothing was changed.
+    /// 1: a lent slice has a wrong length, kind or channel is out of range, or a stretch leaves its arena. Nothing was changed.
     Lent,
     /// 2: a field runs past the last bit of the header. Rows of earlier kinds are written.
     Short { /** the kind */ kind: usize, /** first bit of the field */ bit: u64, /** how many bits the field lacks: its width if it starts at or past the end */ lacks: u64 },
@@ -196,6 +196,27 @@ pub fn read_record(text: &[u8], rows: &mut [u16], samples: &mut [i32]) -> Reply 
     reply(|r, n| unsafe {
         face::dequant_read_record(
             text.as_ptr(), text.len(), rows.as_mut_ptr(), rows.len(), samples.as_mut_ptr(), samples.len(), r, n,
+        )
+    })
+}
+
+/// Counts a stretch of an arena of [`ARENA`] weights, straight or transposed: `Done` has the total of `count` places from `first` on,
+/// the 32 bits of each weight times its place in the arena plus 1, wrapping round at 2^64. A NaN counts with the bits 7fc00000.
+/// `Lent` for another arena, or a stretch that leaves it.
+///
+/// Totals of neighbouring stretches add up, wrapping round, in any grouping and order. Arenas with different totals differ; arenas with
+/// the same total may differ too.
+#[rustfmt::skip]
+pub fn total(arena: &[f32], first: usize, count: usize) -> Reply {
+    reply(|r, n| unsafe { face::dequant_total(arena.as_ptr(), arena.len(), first, count, r, n) })
+}
+
+/// Replaces the 3 x width x height weights of a kind. `Done` has the arena's new total, if `total` was the old one. `Lent` leaves the arena as it was.
+#[rustfmt::skip]
+pub fn replace_kind(arena: &mut [f32], total: u64, kind: usize, weights: &[f32]) -> Reply {
+    reply(|r, n| unsafe {
+        face::dequant_replace_kind(
+            arena.as_mut_ptr(), arena.len(), total, kind, weights.as_ptr(), weights.len(), r, n,
         )
     })
 }

@@ -1,13 +1,8 @@
 //! Document 02's vectors of lookup in the three orders, through the C face. Those with a number that names no order, or with a reply
 //! slice of another length, cannot be asked for from here: examples/c/calls.c has them.
+mod common;
+use common::{number, vectors};
 use dequant::{ARENA, Order, lookup};
-use std::collections::HashMap;
-use std::fs;
-
-fn vectors() -> Vec<String> {
-    let folder = concat!(env!("CARGO_MANIFEST_DIR"), "/../../tests/vectors");
-    fs::read_dir(folder).unwrap().map(|entry| fs::read_to_string(entry.unwrap().path()).unwrap()).collect()
-}
 
 /// Where a part stands as the C face says it: DONE, the arena, the first place and the length; an empty part is LENT.
 fn place(arenas: [&[f32]; 2], part: &[f32]) -> String {
@@ -21,18 +16,13 @@ fn place(arenas: [&[f32]; 2], part: &[f32]) -> String {
 fn lookup_shows_what_the_vectors_want() {
     let (straight, transposed) = (vec![0.0; ARENA], vec![0.0; ARENA]);
     let mut asked = [0; 3];
-    for text in vectors() {
-        let v: HashMap<&str, &str> = text.lines().filter_map(|line| line.split_once('=')).collect();
-        if v["call"] != "lookup" || !v.contains_key("want.reply") || v.contains_key("reply_len") {
-            continue;
-        }
+    for v in vectors("lookup") {
         let Some(&order) = [Order::Unnamed, Order::Straight, Order::Transposed].get(v["order"].parse::<usize>().unwrap()) else {
             continue;
         };
-        let length = |name| v.get(name).map_or(ARENA, |n| n.parse().unwrap());
-        let arenas = [&straight[..length("straight_len")], &transposed[..length("transposed_len")]];
-        let part = lookup(arenas[0], arenas[1], v["kind"].parse().unwrap(), v["channel"].parse().unwrap(), order);
-        assert_eq!(place(arenas, part), v["want.reply"], "{text}");
+        let arenas = [&straight[..number(&v, "straight_len", ARENA)], &transposed[..number(&v, "transposed_len", ARENA)]];
+        let part = lookup(arenas[0], arenas[1], number(&v, "kind", 0), number(&v, "channel", 0), order);
+        assert_eq!(place(arenas, part), v["want.reply"], "{v:?}");
         asked[order as usize] += 1;
     }
     assert_eq!(asked, [22, 7, 6]);
