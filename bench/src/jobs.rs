@@ -6,10 +6,12 @@ use crate::ported::{self, Entry};
 use dequant::{Order, Reply, ARENA, ROW, ROWS};
 use std::hint::black_box;
 use std::rc::Rc;
+use std::sync::Arc;
 
 pub type Side = Box<dyn FnMut() + Send>;
 
-/// One line of the table: ours and, where it has such a thing, the Rust's, over so many units.
+/// One line of the table: ours and, where it has such a thing, the Rust's, over so many units. The Rust has no total: beside ours stands a
+/// plain read of the same memory.
 pub struct Job {
     pub name: &'static str,
     pub unit: &'static str,
@@ -191,8 +193,41 @@ fn lookup() -> Job {
     Job { name: "lookup", unit: "call", units: 102, ours: Box::new(ours), rust: Some(Box::new(rust)) }
 }
 
+/// The straight arena of the defaults.
+fn defaults() -> Vec<f32> {
+    let (mut straight, mut transposed) = (vec![0.0; ARENA], vec![0.0; ARENA]);
+    assert_eq!(dequant::expand(&rows_of(&[1]), &[], &mut straight, &mut transposed), Reply::Done(0));
+    straight
+}
+
+/// The total of an arena, and a plain read of it: the sum of its words.
+fn total() -> Job {
+    let arena = Arc::new(defaults());
+    let same = Arc::clone(&arena);
+    let ours = move || {
+        black_box(dequant::total(black_box(&arena), 0, ARENA));
+    };
+    let plain = move || {
+        black_box(black_box(&same).iter().fold(0u64, |sum, w| sum.wrapping_add(w.to_bits().into())));
+    };
+    Job { name: "total", unit: "weight", units: ARENA, ours: Box::new(ours), rust: Some(Box::new(plain)) }
+}
+
+/// The weights of the largest kind replaced by themselves, and the total with them.
+fn replace() -> Job {
+    let kind = 15;
+    let mut arena = defaults();
+    let weights = arena[dequant::start(kind)..][..dequant::places(kind)].to_vec();
+    let before = dequant::total(&arena, 0, ARENA);
+    let Reply::Done(kept) = before else { panic!("no total") };
+    let ours = move || {
+        assert_eq!(dequant::replace_kind(black_box(&mut arena), kept, kind, &weights), before);
+    };
+    Job { name: "replace", unit: "weight", units: dequant::places(kind), ours: Box::new(ours), rust: None }
+}
+
 /// All jobs, each made when it is run.
-pub const ALL: [fn() -> Job; 9] = [
+pub const ALL: [fn() -> Job; 11] = [
     || set("default", vec![1], vec![]),
     || set("bands16", sixteen_bands(), vec![]),
     || {
@@ -205,4 +240,6 @@ pub const ALL: [fn() -> Job; 9] = [
     read_back,
     lookup,
     jpeg,
+    total,
+    replace,
 ];

@@ -135,6 +135,10 @@ fn a_stack_of_64_kib_is_enough() {
         let mut arenas = [vec![0.0; ARENA], vec![0.0; ARENA]];
         let [straight, transposed] = &mut arenas;
         assert_eq!(expand(&rows, &[], straight, transposed), Reply::Done(0));
+        let counted = total(straight, 0, ARENA);
+        let Reply::Done(kept) = counted else { panic!("no total") };
+        let own = straight[..192].to_vec();
+        assert_eq!(replace_kind(straight, kept, 0, &own), counted);
         let mut text = vec![0; 1000];
         let Reply::Done(length) = write_record(&rows, &[], &mut text) else { panic!("no record") };
         assert_eq!(read_record(&text[..length as usize], &mut rows, &mut []), Reply::Done(0));

@@ -56,15 +56,14 @@ unfolding totalFrom sumFrom
 total-none l p = refl
 
 -- one weight more: its bits b times its place plus 1
-pub total-next : (l : List Float) (p i t b n r : ℕ) → i < length l → t ≡ totalFrom p (take i l) → b ≡ toBits binary32 (getD l i nan) → n ≡ p + i + 1
-    → r ≡ (t + b * n) % 2 ^ 64 → r ≡ totalFrom p (take (i + 1) l)
+pub total-next : (l : List Float) (p i t b r : ℕ) → i < length l → t ≡ totalFrom p (take i l) → b ≡ toBits binary32 (getD l i nan)
+    → r ≡ (t + b * (p + i + 1)) % 2 ^ 64 → r ≡ totalFrom p (take (i + 1) l)
 unfolding totalFrom
-total-next l p i t b n r h e f g k =
+total-next l p i t b r h e f k =
     k
-    ∙ ap (λ (x : ℕ). (x + b * n) % 2 ^ 64) e
-    ∙ mod-add-mod (sumFrom p (take i l)) (2 ^ 64) (b * n)
-    ∙ ap (λ (x : ℕ). (sumFrom p (take i l) + x * n) % 2 ^ 64) f
-    ∙ ap (λ (x : ℕ). (sumFrom p (take i l) + toBits binary32 (getD l i nan) * x) % 2 ^ 64) g
+    ∙ ap (λ (x : ℕ). (x + b * (p + i + 1)) % 2 ^ 64) e
+    ∙ mod-add-mod (sumFrom p (take i l)) (2 ^ 64) (b * (p + i + 1))
+    ∙ ap (λ (x : ℕ). (sumFrom p (take i l) + x * (p + i + 1)) % 2 ^ 64) f
     ∙ ap (λ (x : ℕ). x % 2 ^ 64) (sym (sum-next l p i h))
 
 pub total-all : (l : List Float) (p i t : ℕ) → length l ≤ i → t ≡ totalFrom p (take i l) → t ≡ totalFrom p l

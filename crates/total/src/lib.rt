@@ -23,19 +23,17 @@ pub fn bits(x: f32) -> u32
     f32::to_bits(x)
 }
 
-// The total of a part whose first place is `first`. No product wraps round, their sum may. A place counts with one more, in 32 bits: the
-// compiler then multiplies two or four weights at a time.
+// The total of a part whose first place is `first`. No product wraps round, their sum may.
 fn part_total(part: &[f32], first: usize) -> u64
     requires { ⌜ first + length (now part) ≤ 394752 ⌝ }
     ensures { λ r. ⌜ r ≡ totalFrom first (now (part .entry)) ⌝ }
 {
     let mut total: u64 = 0;
-    let mut place = first as u32 + 1;
     let mut i = 0;
     while i < part.len() {
-        let product = bits(part[i]) as u64 * place as u64;
+        let place = first + i;
+        let product = bits(part[i]) as u64 * (place + 1) as u64;
         total = std::num::wrapping_add_u64(total, product);
-        place += 1;
         i += 1;
     }
     total

@@ -10,20 +10,16 @@ use Rattle.total.proofs.part_total.Statement.{statement}
 use Rattle.total.proofs.part_total.Tie as tie
 
 abbrev Inv-loop : tie.InvT-loop
-Inv-loop part first total₀ place₀ i₀ total place i =
-    (i ≤ length part) × (place ≡ first + i + 1) × (total ≡ totalFrom first (take i part))
+Inv-loop part first total₀ i₀ total i = (i ≤ length part) × (total ≡ totalFrom first (take i part))
 
 abbrev μ-loop : tie.MeasureT-loop
-μ-loop part first total₀ place₀ i₀ total place i = length part - i
+μ-loop part first total₀ i₀ total i = length part - i
 
-cast-place : tie.Need-cast-place Inv-loop μ-loop
-cast-place c = search needs
+loop-holds : tie.Need-loop-holds Inv-loop μ-loop
+loop-holds c = (omega arith, total-none (c .before .args .part .now) (c .before .args .first))
 
 add-place : tie.Need-add-place Inv-loop μ-loop
 add-place c = search needs
-
-loop-holds : tie.Need-loop-holds Inv-loop μ-loop
-loop-holds c = (omega arith, omega arith, total-none (c .before .args .part .now) (c .before .args .first))
 
 mul-bits : tie.Need-mul-bits Inv-loop μ-loop
 mul-bits c = search needs
@@ -37,20 +33,18 @@ bits-requires c κs = search needs
 cast-product : tie.Need-cast-product Inv-loop μ-loop
 cast-product c = search needs
 
-cast-product-2 : tie.Need-cast-product-2 Inv-loop μ-loop
-cast-product-2 c = search needs
+add-product : tie.Need-add-product Inv-loop μ-loop
+add-product c = search needs
 
 mul-product : tie.Need-mul-product Inv-loop μ-loop
 mul-product c =
     let l = c .before .before .before .loop in
-    let h = product-le (c .bits .result) (l .place) (c .bits .ok) (search needs) in
+    let a = c .before .before .before .before .before .args in
+    let h = product-le (c .bits .result) (a .first + l .i + 1) (c .bits .ok) (search needs) in
     omega arith
 
 wrapping-add-u64-requires : tie.Need-wrapping-add-u64-requires Inv-loop μ-loop
 wrapping-add-u64-requires c κs = search needs
-
-add-place-2 : tie.Need-add-place-2 Inv-loop μ-loop
-add-place-2 c = search needs
 
 add-i : tie.Need-add-i Inv-loop μ-loop
 add-i c = search needs
@@ -63,14 +57,13 @@ loop-again c =
     let l = c .before .before .before .before .loop in
     let a = c .before .before .before .before .before .before .args in (
       search needs,
-      search needs,
-      total-next (a .part .now) (a .first) (l .i) (l .total) (c .before .bits .result) (l .place) (c .wrapping-add-u64 .result) (search needs) (l .inv .2) (c .before .bits .ensures) (l .inv .1) (c .wrapping-add-u64 .ensures),
+      total-next (a .part .now) (a .first) (l .i) (l .total) (c .before .bits .result) (c .wrapping-add-u64 .result) (search needs) (l .inv .1) (c .before .bits .ensures) (c .wrapping-add-u64 .ensures),
     )
 
 returns : tie.Need-returns Inv-loop μ-loop
 returns c =
     let a = c .before .before .before .args in
-    total-all (a .part .now) (a .first) (c .before .loop .i) (c .before .loop .total) (c .loop-test .left) (c .before .loop .inv .2)
+    total-all (a .part .now) (a .first) (c .before .loop .i) (c .before .loop .total) (c .loop-test .left) (c .before .loop .inv .1)
 
 pub part-total-spec : {M : Type 1} → statement M
 part-total-spec =
@@ -78,17 +71,15 @@ part-total-spec =
     (tie.spec
     Inv-loop
     μ-loop
-    cast-place
-    add-place
     loop-holds
+    add-place
     mul-bits
     shared-slice-read-bits
     bits-requires
     cast-product
-    cast-product-2
+    add-product
     mul-product
     wrapping-add-u64-requires
-    add-place-2
     add-i
     loop-less
     loop-again
