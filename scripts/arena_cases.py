@@ -1,6 +1,6 @@
 #!/usr/bin/env python3
-"""Makes crates/arena_cases/stdin and crates/arena_cases/stdout from the vectors of tests/vectors with call=total or replace, and from runs
-with a NaN. A vector with reply_len is for the C face alone: examples/c/calls.c has it.
+"""Makes crates/arena_cases/stdin and crates/arena_cases/stdout from the vectors of tests/vectors with call=total or replace, and from a few
+runs of our own. A vector with reply_len is for the C face alone: examples/c/calls.c has it.
 
 A vector is a text file of key=value lines: arena and weights (mix:SEED or const:BITS, behind it P=BITS for each place that stands apart),
 arena_len and weights_len where they aren't the right ones, first, count, total and kind, and what the call must give. What the vectors
@@ -105,11 +105,13 @@ def case(v, name, at):
 
 
 def runs():
-    """a NaN counts with the bits 7fc00000, whatever its own and wherever it stands: in a stretch, and among old and new weights"""
+    """a NaN counts with the bits 7fc00000, whatever its own and wherever it stands: in a stretch, and among old and new weights; and kind
+    17, which has no place, is no kind even where no weight is lent for it"""
     arena = "const:0;3=7fffffff;200=ff800001"
     yield "nan-counted", {"call": "total", "arena": arena, "first": "2", "count": "2", "want.reply": "0 %d" % (4 * NAN)}
     v = {"call": "replace", "arena": arena, "total": str((4 + 201) * NAN), "kind": "0", "weights": "const:0;1=7fc00001"}
     left = str((2 + 201) * NAN)
+    yield "no-kind", {**v, "kind": "17", "weights_len": "0", "weights": "const:0", "want.reply": "1", "want.arena": "unchanged"}
     v |= {"want.reply": "0 " + left, "want.arena.total64": left, "want.arena.at": "1:7fc00000,3:00000000,200:7fc00000"}
     yield "nan-replaced", {**v, "want.arena": hashlib.sha256(array.array("I", after(v)).tobytes()).hexdigest()}
 

@@ -12,6 +12,11 @@
 //! assert_eq!(dequant::expand(&rows, &[], &mut straight, &mut transposed), dequant::Reply::Done(0));
 //! let shown = dequant::lookup(&straight, &transposed, 6, 0, dequant::Order::Transposed);
 //! assert_eq!(shown.len(), 16 * 8);
+//!
+//! let dequant::Reply::Done(total) = dequant::total(&straight, 0, dequant::ARENA) else { panic!() };
+//! let other = vec![1f32; dequant::places(6)];
+//! let dequant::Reply::Done(after) = dequant::replace_kind(&mut straight, total, 6, &other) else { panic!() };
+//! assert_eq!(dequant::total(&straight, 0, dequant::ARENA), dequant::Reply::Done(after));
 //! ```
 #![warn(missing_docs)]
 
