@@ -4,6 +4,31 @@ use crate::shown::show_arena;
 use crate::shown::show_reply;
 use show::field;
 
+// The words of a case, by their numbers: the call, lengths, rules with their lists of weights apart, places, and numbers of two words.
+const CALL: usize = 2;
+
+const ARENA_LENGTH: usize = 3;
+
+const ARENA_RULE: u32 = 4;
+
+const ARENA_APART: u32 = 8;
+
+const WEIGHTS_LENGTH: usize = 10;
+
+const WEIGHTS_RULE: u32 = 11;
+
+const WEIGHTS_APART: u32 = 15;
+
+const PLACES: u32 = 17;
+
+const FIRST: u32 = 19;
+
+const COUNT: u32 = 21;
+
+const TOTAL: u32 = 23;
+
+const KIND: u32 = 25;
+
 // A number of two words, the low one first.
 fn number(s: &[u8], at: usize, j: u32) -> u64 {
     let own = show::rest(s, at);
@@ -16,23 +41,23 @@ fn number(s: &[u8], at: usize, j: u32) -> u64 {
 fn count(s: &[u8], at: usize, arena: &[f32]) {
     show_reply(total::stretch_total(
         arena,
-        number(s, at, 19) as usize,
-        number(s, at, 21) as usize,
+        number(s, at, FIRST) as usize,
+        number(s, at, COUNT) as usize,
     ));
 }
 
 fn replace(s: &[u8], at: usize, arena: &mut [f32], before: &[f32], weights: &[f32]) {
     show_reply(total::replace_kind(
         arena,
-        number(s, at, 23),
-        number(s, at, 25) as usize,
+        number(s, at, TOTAL),
+        number(s, at, KIND) as usize,
         weights,
     ));
-    show_arena(arena, before, show::listed(s, at, 17));
+    show_arena(arena, before, show::listed(s, at, PLACES));
 }
 
 fn cut_call(s: &[u8], at: usize, arena: &mut [f32], before: &[f32], weights: &[f32]) {
-    if field(s, at, 2) == 0 {
+    if field(s, at, CALL) == 0 {
         count(s, at, arena);
     } else {
         replace(s, at, arena, before, weights);
@@ -41,11 +66,11 @@ fn cut_call(s: &[u8], at: usize, arena: &mut [f32], before: &[f32], weights: &[f
 
 // The arena twice, so that it is known what it was, and the weights, each by its rule and as long as the case says.
 fn filled_call(s: &[u8], at: usize, arena: &mut [f32], before: &mut [f32], weights: &mut [f32]) {
-    fill(arena, s, at, 4, 8);
-    fill(before, s, at, 4, 8);
-    fill(weights, s, at, 11, 15);
-    let n = field(s, at, 3);
-    let m = field(s, at, 10);
+    fill(arena, s, at, ARENA_RULE, ARENA_APART);
+    fill(before, s, at, ARENA_RULE, ARENA_APART);
+    fill(weights, s, at, WEIGHTS_RULE, WEIGHTS_APART);
+    let n = field(s, at, ARENA_LENGTH);
+    let m = field(s, at, WEIGHTS_LENGTH);
     if arena.len() < n || before.len() < n || weights.len() < m {
         return;
     }

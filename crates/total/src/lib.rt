@@ -13,12 +13,15 @@ pub enum Total {
     Lent,
 }
 
-// A weight's bits; those of a NaN are 7fc00000, as the logic's `toBits` has them.
+// What a NaN counts with, as the logic's `toBits` has it.
+const NAN_BITS: u32 = 0x7fc00000;
+
+// A weight's bits; those of a NaN are 7fc00000.
 pub fn bits(x: f32) -> u32
     ensures { λ r. ⌜ r ≡ toBits binary32 x ⌝ }
 {
     if x != x {
-        return 0x7fc00000;
+        return NAN_BITS;
     }
     f32::to_bits(x)
 }
