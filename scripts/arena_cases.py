@@ -8,21 +8,14 @@ want goes to stdout: the reply, and of an arena that may change whether it is un
 that the vector lists, once the arena that they are of has the digest that the vector wants. Nothing of ours is run here."""
 import array
 import hashlib
-import os
 import struct
 
-ROOT = os.path.join(os.path.dirname(os.path.abspath(__file__)), "..")
-VECTORS = os.path.join(ROOT, "tests", "vectors")
-CRATE = os.path.join(ROOT, "crates", "arena_cases")
+from cases import vectors, write
+
 ARENA = 394752
 AREAS = [64, 64, 64, 64, 256, 1024, 128, 256, 512, 64, 64, 4096, 2048, 16384, 8192, 65536, 32768]
 CALLS = {"total": 0, "replace": 1}
 NAN = 0x7fc00000
-
-
-def load(path):
-    with open(path) as f:
-        return dict(line.rstrip("\n").split("=", 1) for line in f)
 
 
 def rule(text):
@@ -117,24 +110,8 @@ def runs():
 
 
 def main():
-    vectors = []
-    for name in sorted(os.listdir(VECTORS)):
-        v = load(os.path.join(VECTORS, name))
-        if v["call"] in CALLS and "reply_len" not in v:
-            vectors.append((name.rsplit(".", 1)[0], v))
-    vectors += runs()
-    at = 4 + 4 * len(vectors)
-    starts, cases, lines = [], [], []
-    for name, v in vectors:
-        starts.append(at)
-        cases.append(case(v, name, at))
-        at += len(cases[-1])
-        lines += [name] + wanted(v)
-    assert at <= 65536
-    with open(os.path.join(CRATE, "stdin"), "wb") as f:
-        f.write(struct.pack("<%dI" % (1 + len(starts)), len(starts), *starts) + b"".join(cases))
-    with open(os.path.join(CRATE, "stdout"), "w") as f:
-        f.write("\n".join(lines) + "\n")
+    cases = [(name, v) for name, v in vectors() if v["call"] in CALLS and "reply_len" not in v] + list(runs())
+    write("arena_cases", [(name, v, "".join(line + "\n" for line in wanted(v)).encode()) for name, v in cases], case)
 
 
 main()

@@ -11,12 +11,10 @@ only, the record or the samples are worked out here and must have that digest. T
 raw written and read back, are worked out here too. Nothing of ours is run here."""
 import array
 import hashlib
-import os
 import struct
 
-ROOT = os.path.join(os.path.dirname(os.path.abspath(__file__)), "..")
-VECTORS = os.path.join(ROOT, "tests", "vectors")
-CRATE = os.path.join(ROOT, "crates", "row_cases")
+from cases import vectors, write
+
 ARENA, ROWS, BUFFER = 394752, 2176, 4500000
 SIDES = [(8, 8)] * 4 + [(16, 16), (32, 32), (16, 8), (32, 8), (32, 16), (8, 8), (8, 8), (64, 64), (64, 32)]
 SIDES += [(128, 128), (128, 64), (256, 256), (256, 128)]
@@ -24,11 +22,6 @@ FIXED = [0, 9, 18, 6, 3, 27, 0, 1]  # numbers of a mode that stand before its ba
 LISTS = [0, 0, 0, 1, 1, 2, 1, 0]
 CALLS = {"write_record": 0, "read_record": 1, "back": 2, "read": 3, "quantlist": 4, "readheader": 5}
 FULL = "lin:-2147483648,2654435761,4294967291"
-
-
-def load(path):
-    with open(path) as f:
-        return dict(line.rstrip("\n").split("=", 1) for line in f)
 
 
 def rule(text):
@@ -171,24 +164,8 @@ def case(v, name, at):
 
 
 def main():
-    cases = []
-    for name in sorted(os.listdir(VECTORS)):
-        v = load(os.path.join(VECTORS, name))
-        if v["call"] in CALLS and "reply_len" not in v:
-            cases.append((name.rsplit(".", 1)[0], v, wanted(v)))
-    cases += runs()
-    at = 4 + 4 * len(cases)
-    begins, words, out = [], [], b""
-    for name, v, lines in cases:
-        begins.append(at)
-        words.append(case(v, name, at))
-        at += len(words[-1])
-        out += name.encode() + b"\n" + lines
-    assert at <= 65536
-    with open(os.path.join(CRATE, "stdin"), "wb") as f:
-        f.write(struct.pack("<%dI" % (1 + len(begins)), len(begins), *begins) + b"".join(words))
-    with open(os.path.join(CRATE, "stdout"), "wb") as f:
-        f.write(out)
+    cases = [(name, v, wanted(v)) for name, v in vectors() if v["call"] in CALLS and "reply_len" not in v]
+    write("row_cases", cases + list(runs()), case)
 
 
 main()

@@ -11,21 +11,14 @@ vector lists; of a part its length, its first and last, and its total, or its va
 wants, or where it says the part by its place and length, those. Nothing of ours is run here."""
 import array
 import hashlib
-import os
 import struct
 
-ROOT = os.path.join(os.path.dirname(os.path.abspath(__file__)), "..")
-VECTORS = os.path.join(ROOT, "tests", "vectors")
-CRATE = os.path.join(ROOT, "crates", "set_cases")
+from cases import load, vectors, write
+
 ARENA = 394752
 AREAS = [64, 64, 64, 64, 256, 1024, 128, 256, 512, 64, 64, 4096, 2048, 16384, 8192, 65536, 32768]
 CALLS = {"expand": 0, "lookup": 1, "jpeg": 2, "expand_kind": 3, "importer": 4, "matrixlist": 5}
 ORDERS = {"none": 0, "straight": 1, "transposed": 2, "0": 0, "1": 1, "2": 2}
-
-
-def load(path):
-    with open(path) as f:
-        return dict(line.rstrip("\n").split("=", 1) for line in f)
 
 
 def rule(text):
@@ -152,7 +145,7 @@ def denom(kind, v):
 def runs():
     """document 01's: default kind 3, channel 0 is 1/2200 everywhere (its total is a vector's). Document 02's: denominators bc00, with
     samples -5 that cancel its sign, 8000 and 0000 are DENOM; so is kind 16's, behind a band of kind 0 that is refused where 16 is not"""
-    three = load(os.path.join(VECTORS, "kind-003.vec"))
+    three = load("kind-003")
     assert three["kind"] == "3" and three["row.3"] == "0" and three["want.straight.total64"] == three["want.transposed.total64"]
     yield "channel", everywhere(three, range(64), 1 / 2200, three["want.straight.total64"])
     for name, denominator in ("negative", "bc00"), ("minus-zero", "8000"), ("zero", "0000"):
@@ -169,24 +162,8 @@ def for_the_library(v):
 
 
 def main():
-    vectors = []
-    for name in sorted(os.listdir(VECTORS)):
-        v = load(os.path.join(VECTORS, name))
-        if for_the_library(v):
-            vectors.append((name.rsplit(".", 1)[0], v))
-    vectors += runs()
-    at = 4 + 4 * len(vectors)
-    starts, cases, lines = [], [], []
-    for name, v in vectors:
-        starts.append(at)
-        cases.append(case(v, name, at))
-        at += len(cases[-1])
-        lines += [name] + wanted(v)
-    assert at <= 65536
-    with open(os.path.join(CRATE, "stdin"), "wb") as f:
-        f.write(struct.pack("<%dI" % (1 + len(starts)), len(starts), *starts) + b"".join(cases))
-    with open(os.path.join(CRATE, "stdout"), "w") as f:
-        f.write("\n".join(lines) + "\n")
+    cases = [(name, v) for name, v in vectors() if for_the_library(v)] + list(runs())
+    write("set_cases", [(name, v, "".join(line + "\n" for line in wanted(v)).encode()) for name, v in cases], case)
 
 
 main()
