@@ -1,7 +1,7 @@
 -- The total, from the last place on: each weight's bits are in the running sum once for each place up to its own. Assumes nothing.
 use mathlib.Core.Path.{_≡_, refl, sym, ap, _∙_, subst}
 use mathlib.Core.List.{List, [], _∷_}
-use Prim.Native.Nat.{ℕ, zero, suc, _+_, _*_, _%_, _^_, _≤_, _<_}
+use Prim.Native.Nat.{ℕ, zero, suc, _+_, _%_, _^_, _≤_, _<_}
 use native.Mathlib.Nat.{add-mod}
 use native.Mathlib.Omega.{arith}
 use lib.Ieee.{Float, nan, binary32, toBits}
