@@ -10,10 +10,8 @@ import array
 import hashlib
 import struct
 
-from cases import vectors, write
+from cases import ARENA, AREAS, vectors, write
 
-ARENA = 394752
-AREAS = [64, 64, 64, 64, 256, 1024, 128, 256, 512, 64, 64, 4096, 2048, 16384, 8192, 65536, 32768]
 CALLS = {"total": 0, "replace": 1}
 NAN = 0x7fc00000
 

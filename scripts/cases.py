@@ -4,6 +4,11 @@ import struct
 
 ROOT = os.path.join(os.path.dirname(os.path.abspath(__file__)), "..")
 VECTORS = os.path.join(ROOT, "tests", "vectors")
+ARENA = 394752
+# the width and height of each kind
+SIDES = [(8, 8)] * 4 + [(16, 16), (32, 32), (16, 8), (32, 8), (32, 16), (8, 8), (8, 8), (64, 64), (64, 32)]
+SIDES += [(128, 128), (128, 64), (256, 256), (256, 128)]
+AREAS = [width * height for width, height in SIDES]
 
 
 def load(name):

@@ -1,20 +1,17 @@
 #!/usr/bin/env python3
 """Runs target/bin/importer and target/bin/matrixlist on the headers of those vectors of tests/vectors that have the digest of what
 such a program must list, and compares. Says how many agree; fails on a difference, and where there is no such vector."""
-import glob
 import hashlib
 import os
 import subprocess
 import sys
 
-ROOT = os.path.join(os.path.dirname(os.path.abspath(__file__)), "..")
+from cases import ROOT, vectors
 
 
 def main():
     agree, differ = 0, []
-    for path in sorted(glob.glob(os.path.join(ROOT, "tests", "vectors", "*.vec"))):
-        with open(path) as f:
-            v = dict(line.rstrip("\n").split("=", 1) for line in f)
+    for name, v in vectors():
         if v["call"] not in ("importer", "matrixlist") or "want.text.sha256" not in v:
             continue
         program = os.path.join(ROOT, "target", "bin", v["call"])
@@ -22,7 +19,7 @@ def main():
         if hashlib.sha256(listed).hexdigest() == v["want.text.sha256"]:
             agree += 1
         else:
-            differ.append(os.path.basename(path))
+            differ.append(name)
     print("listings: %d agree" % agree, *differ)
     return bool(differ) or not agree
 

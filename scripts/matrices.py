@@ -9,10 +9,8 @@ import importlib.util
 import os
 import sys
 
-ROOT = os.path.join(os.path.dirname(os.path.abspath(__file__)), "..")
-ARENA = 394752
-SIDES = [(8, 8)] * 4 + [(16, 16), (32, 32), (16, 8), (32, 8), (32, 16), (8, 8), (8, 8), (64, 64), (64, 32)]
-SIDES += [(128, 128), (128, 64), (256, 256), (256, 128)]
+from cases import ARENA, ROOT, SIDES
+
 ONE, TWO, HALF_LESS = 0x3c00, 0x4000, 0xb800  # 1, 2 and -0.5
 
 

@@ -13,11 +13,9 @@ import array
 import hashlib
 import struct
 
-from cases import vectors, write
+from cases import ARENA, SIDES, vectors, write
 
-ARENA, ROWS, BUFFER = 394752, 2176, 4500000
-SIDES = [(8, 8)] * 4 + [(16, 16), (32, 32), (16, 8), (32, 8), (32, 16), (8, 8), (8, 8), (64, 64), (64, 32)]
-SIDES += [(128, 128), (128, 64), (256, 256), (256, 128)]
+ROWS, BUFFER = 2176, 4500000
 FIXED = [0, 9, 18, 6, 3, 27, 0, 1]  # numbers of a mode that stand before its band lists
 LISTS = [0, 0, 0, 1, 1, 2, 1, 0]
 CALLS = {"write_record": 0, "read_record": 1, "back": 2, "read": 3, "quantlist": 4, "readheader": 5}

@@ -13,10 +13,8 @@ import array
 import hashlib
 import struct
 
-from cases import load, vectors, write
+from cases import ARENA, AREAS, load, vectors, write
 
-ARENA = 394752
-AREAS = [64, 64, 64, 64, 256, 1024, 128, 256, 512, 64, 64, 4096, 2048, 16384, 8192, 65536, 32768]
 CALLS = {"expand": 0, "lookup": 1, "jpeg": 2, "expand_kind": 3, "importer": 4, "matrixlist": 5}
 ORDERS = {"none": 0, "straight": 1, "transposed": 2, "0": 0, "1": 1, "2": 2}
 

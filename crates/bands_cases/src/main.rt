@@ -4,20 +4,13 @@ use bands::Banded;
 
 mod power;
 
-fn wide(x: u32) -> u64 {
-    x as u64
-}
-
 fn long(x: usize) -> u64 {
     x as u64
 }
 
 // The bits of a float; 2143289344 for a NaN.
 pub(crate) fn bits(x: f32) -> u64 {
-    if x != x {
-        return 2143289344;
-    }
-    wide(f32::to_bits(x))
+    total::bits(x) as u64
 }
 
 pub(crate) fn word(n: u64) {

@@ -32,10 +32,6 @@ module _ (a : List Float) (first count : ℕ) where
   unfolding totalAnswer
   counted t e h f = rw (eq-eqb (length a) 394752 e, le-leb (first + count) 394752 h) (ap Done f)
 
-  -- the stretch as the code cuts it
-  pub cut-total : totalFrom first (take (first + count - first) (drop first a)) ≡ totalOf a first count
-  cut-total = let e : first + count - first ≡ count = omega arith in ap (λ (n : ℕ). totalFrom first (take n (drop first a))) e
-
 -- ---- what a replacement is lent
 module _ (n k m : ℕ) where
   pub right-arena : (n ≡ 394752 → ⊥) → eqb n 394752 ≡ partRight n k m

@@ -1,28 +1,20 @@
 -- The laws of the sum: one part behind another, one weight more, and how it wraps round. Assumes nothing.
 use mathlib.Core.Path.{_≡_, refl, sym, ap, _∙_}
-use mathlib.Core.Bool.{false, not, true≢false}
 use mathlib.Core.List.{List, [], _∷_, _++_}
 use Prim.Native.Nat.{ℕ, suc, _+_, _-_, _*_, _%_, _^_, _≤_, _<_}
 use native.Mathlib.Nat.{add-zero, le-trans, mul-le-mul, mod-add-mod, add-mod-right, mod-eq-of-lt, mod-lt}
 use native.Mathlib.Numerals.{add-one}
 use native.Mathlib.Omega.{arith}
-use lib.Dec.{T, lit≤, lit<}
+use lib.Dec.{lit≤, lit<}
 use lib.ListN.{length, getD, take}
 use lib.Seq.{take-suc, take-all, length-take-le}
-use lib.Ieee.{Float, nan, inf, fin, binary32, toBits, isNan, ne}
+use lib.Ieee.{Float, nan, binary32, toBits}
 use Rattle.total.specs.Total.{sumFrom, totalFrom}
 
 -- ---- a weight's bits
 pub nan-bits : {x : Float} → x ≡ nan → 0x7fc00000 ≡ toBits binary32 x
 unfolding toBits
 nan-bits e = rw e
-
--- what does not differ from itself is no NaN
-pub number : (x : Float) → ne x x ≡ false → T (not (isNan x))
-unfolding ne isNan
-number nan e = absurd (true≢false e)
-number (inf s) e = tt
-number (fin s m k) e = tt
 
 -- the bits times one of the numbers up to 394,752: far below 2^64
 pub product-le : (b n : ℕ) → b < 2 ^ 32 → n ≤ 394752 → b * n ≤ 2 ^ 51

@@ -1,4 +1,4 @@
--- A kind's part of an arena: its length, how the code cuts it, and an arena with another part laid in. Assumes nothing.
+-- A part as the code cuts it, `at` up to `at + n`; and a kind's part of an arena: its length, and an arena with another part laid in. Assumes nothing.
 use mathlib.Core.Path.{_≡_, sym, ap, _∙_, subst}
 use mathlib.Core.List.{List, _++_}
 use Prim.Native.Nat.{ℕ, _+_, _-_, _≤_}
@@ -16,12 +16,13 @@ part-length k l e =
     rest : (s p : ℕ) → s + p ≤ 394752 → p ≤ 394752 - s
     rest s p h = omega arith
 
--- the part as the code cuts it
+-- n elements from a place on
+pub cut-at : {A : Type 0} (at n : ℕ) (l : List A) → take (at + n - at) (drop at l) ≡ take n (drop at l)
+cut-at at n l = let e : at + n - at ≡ n = omega arith in ap (λ (i : ℕ). take i (drop at l)) e
+
+-- a kind's
 pub cut : {A : Type 0} (k st pl : ℕ) (l : List A) → st ≡ startOf k → pl ≡ placesOf k → take (st + pl - st) (drop st l) ≡ part k l
-cut k st pl l e f = ap (λ (n : ℕ). take n (drop st l)) (whole st pl ∙ f) ∙ ap (λ (n : ℕ). take (placesOf k) (drop n l)) e
-  where
-    whole : (a b : ℕ) → a + b - a ≡ b
-    whole a b = omega arith
+cut k st pl l e f = cut-at st pl l ∙ ap (λ (n : ℕ). take n (drop st l)) f ∙ ap (λ (n : ℕ). take (placesOf k) (drop n l)) e
 
 -- a part laid in where it stood
 pub laid-own : {A : Type 0} (k : ℕ) (l : List A) → laid k (part k l) l ≡ l

@@ -1,8 +1,10 @@
 -- `total::stretch_total` meets its contract. Assumes nothing.
-use mathlib.Core.Path.{_∙_}
+use mathlib.Core.Path.{ap, _∙_}
 use native.Mathlib.Omega.{arith}
 use borrow.Author.Needs.{needs}
-use Rattle.total.proofs.Answers.{other-arena, outside, counted, cut-total}
+use Rattle.transform.proofs.PartLaws.{cut-at}
+use Rattle.total.specs.Total.{totalFrom}
+use Rattle.total.proofs.Answers.{other-arena, outside, counted}
 use Rattle.total.proofs.stretch_total.Statement.{statement}
 use Rattle.total.proofs.stretch_total.Tie as tie
 
@@ -43,7 +45,7 @@ returns-4 : tie.Need-returns-4
 returns-4 c =
     let d = c .before .before in
     let a = d .before .before .before .before .args in
-    counted (a .arena .now) (a .first) (a .count) (c .part-total .result) (d .before .before .if1 .left) (omega (arith, d .before .if2 .left, d .if3 .left)) (c .part-total .ensures ∙ cut-total (a .arena .now) (a .first) (a .count))
+    counted (a .arena .now) (a .first) (a .count) (c .part-total .result) (d .before .before .if1 .left) (omega (arith, d .before .if2 .left, d .if3 .left)) (c .part-total .ensures ∙ ap (totalFrom (a .first)) (cut-at (a .first) (a .count) (a .arena .now)))
 
 pub stretch-total-spec : {M : Type 1} → statement M
 stretch-total-spec =
