@@ -1,19 +1,19 @@
 -- The answers, test by test, and what a replacement leaves. Assumes nothing.
 use mathlib.Core.Path.{_≡_, ap, _∙_}
 use mathlib.Core.Bool.{true, false, _&&_}
-use mathlib.Core.List.{List, _++_, append-assoc}
+use mathlib.Core.List.{List, _++_}
 use Prim.Native.Nat.{ℕ, _+_, _-_, _%_, _^_, _≤_, _<_}
-use native.Mathlib.Nat.{le-refl}
 use native.Mathlib.Omega.{arith}
 use borrow.Author.Tests.{eq-eqb, ne-eqb, le-leb, lt-leb, lt-ltb, le-ltb, eqb-true}
 use lib.Dec.{eqb, ltb}
 use lib.ListN.{length, take, drop}
-use lib.Seq.{paste, take-all}
 use lib.Ieee.{Float}
 use Rattle.transform.specs.Kinds.{placesOf, startOf, part, laid}
 use Rattle.transform.proofs.Chain.{here, next, left, right}
 use Rattle.transform.proofs.Laws.{end-le}
 use Rattle.transform.proofs.PartLaws.{cut, part-length}
+use Rattle.slices.specs.Slices.{laidAt, putLeaves}
+use Rattle.slices.proofs.Laws.{put-fits}
 use Rattle.total.specs.declared.Total.the-variants.{Done, Lent}
 use Rattle.total.specs.Total.{totalFrom, totalOf, totalAnswer, partRight, replaced, replaceAnswer, replaceArena}
 use Rattle.total.proofs.Laws.{total-below, less-is}
@@ -103,12 +103,11 @@ module _ (a : List Float) (k : ℕ) (ws : List Float) where
       ∙ ap (λ (n : ℕ). ((t + (2 ^ 64 - n)) % 2 ^ 64 + new) % 2 ^ 64) i
       ∙ ap (λ (n : ℕ). ((t + (2 ^ 64 - totalFrom (startOf k) (part k a))) % 2 ^ 64 + n) % 2 ^ 64) j
 
-  -- the weights copied to the kind's start are its part laid in
-  pub pasted-is : (st : ℕ) (y : List Float) → Placed (length a) k (length ws) st → partRight (length a) k (length ws) ≡ true → y ≡ paste a st ws (length ws) → y ≡ replaceArena a k ws
-  pasted-is st y p e f =
+  -- the weights put at the kind's start are its part laid in
+  pub put-is : (st : ℕ) (y : List Float) → Placed (length a) k (length ws) st → partRight (length a) k (length ws) ≡ true → y ≡ putLeaves a st ws → y ≡ replaceArena a k ws
+  put-is st y p e f =
       f
-      ∙ append-assoc (take st a) (take (length ws) ws) (drop (st + length ws) a)
-      ∙ ap (λ (x : List Float). take st a ++ (x ++ drop (st + length ws) a)) (take-all (length ws) ws (le-refl (length ws)))
-      ∙ ap (λ (n : ℕ). take n a ++ (ws ++ drop (n + length ws) a)) (p .start)
+      ∙ put-fits a st ws (omega (arith, p .ends, p .arena))
+      ∙ ap (λ (n : ℕ). laidAt n ws a) (p .start)
       ∙ ap (λ (n : ℕ). take (startOf k) a ++ (ws ++ drop (startOf k + n) a)) (p .weights)
       ∙ arena-laid e

@@ -3,7 +3,6 @@ use transform::Kind;
 ghost use mathlib.Core.Path.{_≡_};
 ghost use Prim.Native.Nat.{_+_, _≤_};
 ghost use lib.ListN.{length};
-ghost use lib.Seq.{paste};
 ghost use lib.Ieee.{binary32, toBits};
 ghost use Rattle.total.specs.Total.{totalFrom, totalAnswer, partRight, replaceAnswer, replaceArena};
 
@@ -69,18 +68,6 @@ fn part_right(n: usize, kind: usize, m: usize) -> bool
     n == Kind::ARENA && (kind < Kind::COUNT && m == k.arena_length())
 }
 
-// The weights into the arena, from a place on.
-fn put(arena: &mut [f32], at: usize, weights: &[f32])
-    requires { ⌜ at + length (now weights) ≤ length (now arena) ⌝ }
-    ensures { λ r. ⌜ now (arena .exit) ≡ paste (now (arena .entry)) at (now (weights .entry)) (length (now (weights .entry))) ⌝ }
-{
-    let mut i = 0;
-    while i < weights.len() {
-        arena[at + i] = weights[i];
-        i += 1;
-    }
-}
-
 // A kind's weights replaced, and the arena's total with them. LENT leaves the arena as it was.
 pub fn replace_kind(arena: &mut [f32], total: u64, kind: usize, weights: &[f32]) -> Total
     ensures answer { λ r. ⌜ r ≡ replaceAnswer (now (arena .entry)) total kind (now (weights .entry)) ⌝ }
@@ -94,7 +81,7 @@ pub fn replace_kind(arena: &mut [f32], total: u64, kind: usize, weights: &[f32])
     let end = at + weights.len();
     let old = part_total(&arena[at..end], at);
     let new = part_total(weights, at);
-    put(arena, at, weights);
+    slices::put(arena, at, weights);
     let rest = std::num::wrapping_sub_u64(total, old);
     Total::Done {
         total: std::num::wrapping_add_u64(rest, new),

@@ -7,7 +7,7 @@ use borrow.Author.Tests.{not-true, not-false}
 use borrow.Author.Needs.{needs}
 use lib.ListN.{length}
 use Rattle.total.specs.Total.{partRight}
-use Rattle.total.proofs.Answers.{Placed, placed, part-fits, replace-lent, arena-kept, replace-done, replaced-is, pasted-is}
+use Rattle.total.proofs.Answers.{Placed, placed, part-fits, replace-lent, arena-kept, replace-done, replaced-is, put-is}
 use Rattle.total.proofs.replace_kind.Statement.{statement}
 use Rattle.total.proofs.replace_kind.Tie as tie
 
@@ -61,7 +61,7 @@ part-total-requires-2 : tie.Need-part-total-requires-2
 part-total-requires-2 c κs = known (c .before .before .before) .ends
 
 put-requires : tie.Need-put-requires
-put-requires c κs = let k = known (c .before .before .before .before .before) in omega (arith, k .ends, k .arena)
+put-requires c κs = search needs
 
 wrapping-sub-u64-requires : tie.Need-wrapping-sub-u64-requires
 wrapping-sub-u64-requires c κs = search needs
@@ -84,7 +84,7 @@ returns-2 c =
     let old = p .before .part-total in
     let new = p .part-total2 in (
       replace-done l k ws (a .total) _ (right d) (replaced-is l k ws (a .total) (place d) (old .result) (new .result) (less .result) _ (known d) (old .ensures) (new .ensures) (less .ensures) (less .ok) (c .wrapping-add-u64 .ensures)),
-      pasted-is l k ws _ _ (known d) (right d) (c .before .before .before .before .put .ensures),
+      put-is l k ws _ _ (known d) (right d) (c .before .before .before .before .put .ensures),
     )
 
 pub replace-kind-spec : {M : Type 1} → statement M

@@ -1,13 +1,15 @@
--- `total::put` meets its contract. The loop's invariant: i weights are copied. Assumes nothing.
-use mathlib.Core.Path.{_≡_, refl}
-use Prim.Native.Nat.{_-_, _≤_}
+-- `slices::put` meets its contract. The loop's invariant: i weights are copied. Assumes nothing.
+use mathlib.Core.Path.{_≡_, refl, ap, _∙_}
+use Prim.Native.Nat.{ℕ, _-_, _≤_}
 use native.Mathlib.Numerals.{add-one}
+use native.Mathlib.Omega.{arith}
 use borrow.Author.Needs.{needs}
 use lib.Ieee.{nan}
 use lib.ListN.{length, length-set}
 use lib.Seq.{paste, paste-zero, paste-suc}
-use Rattle.total.proofs.put.Statement.{statement}
-use Rattle.total.proofs.put.Tie as tie
+use Rattle.slices.proofs.Laws.{put-stays, put-all}
+use Rattle.slices.proofs.put.Statement.{statement}
+use Rattle.slices.proofs.put.Tie as tie
 
 abbrev Inv-loop : tie.InvT-loop
 Inv-loop arena₀ at weights i₀ arena i =
@@ -16,8 +18,21 @@ Inv-loop arena₀ at weights i₀ arena i =
 abbrev μ-loop : tie.MeasureT-loop
 μ-loop arena₀ at weights i₀ arena i = length weights - i
 
+returns : tie.Need-returns Inv-loop μ-loop
+returns c =
+    let a = c .before .args in
+    put-stays (a .arena .now) (a .at) (a .weights .now) (omega (arith, c .if1 .taken))
+
+sub-if2 : tie.Need-sub-if2 Inv-loop μ-loop
+sub-if2 c = search needs
+
+returns-2 : tie.Need-returns-2 Inv-loop μ-loop
+returns-2 c =
+    let a = c .before .before .args in
+    put-stays (a .arena .now) (a .at) (a .weights .now) (omega (arith, c .if2 .taken))
+
 loop-holds : tie.Need-loop-holds Inv-loop μ-loop
-loop-holds c = (search needs, refl, paste-zero (c .args .arena .now) (c .args .at) (c .args .weights .now))
+loop-holds c = let a = c .before .before .args in (search needs, refl, paste-zero (a .arena .now) (a .at) (a .weights .now))
 
 mul-arena : tie.Need-mul-arena Inv-loop μ-loop
 mul-arena c = search needs
@@ -43,7 +58,7 @@ loop-less c = search needs
 loop-again : tie.Need-loop-again Inv-loop μ-loop
 loop-again c =
     let l = c .before .before .loop in
-    let a = c .before .before .before .args in (
+    let a = c .before .before .before .before .before .args in (
       search needs,
       simp length-set (l .inv .1),
       rw (l .inv .2, add-one (l .i)) (paste-suc (a .arena .now) (a .at) (a .weights .now) (l .i) nan (search needs) (search needs)),
@@ -52,11 +67,12 @@ loop-again c =
 same-length : tie.Need-same-length Inv-loop μ-loop
 same-length c = search needs
 
-returns : tie.Need-returns Inv-loop μ-loop
-returns c =
+returns-3 : tie.Need-returns-3 Inv-loop μ-loop
+returns-3 c =
     let l = c .before .loop in
-    let e : l .i ≡ length (c .before .before .args .weights .now) = search needs in
-    rw e at (l .inv .2)
+    let a = c .before .before .before .before .args in
+    let e : l .i ≡ length (a .weights .now) = search needs in
+    l .inv .2 ∙ ap (paste (a .arena .now) (a .at) (a .weights .now)) e ∙ put-all (a .arena .now) (a .at) (a .weights .now) (search needs)
 
 pub put-spec : {M : Type 1} → statement M
 put-spec =
@@ -64,6 +80,9 @@ put-spec =
     (tie.spec
     Inv-loop
     μ-loop
+    returns
+    sub-if2
+    returns-2
     loop-holds
     mul-arena
     shared-slice-read-arena
@@ -74,4 +93,4 @@ put-spec =
     loop-less
     loop-again
     same-length
-    returns)
+    returns-3)
