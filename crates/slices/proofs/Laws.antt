@@ -8,7 +8,7 @@ use native.Mathlib.Omega.{arith}
 use borrow.Author.Tests.{le-leb, lt-leb}
 use lib.Dec.{leb}
 use lib.ListN.{length, getD, take, drop, set, replicate, length-append, length-drop, length-replicate, getD-replicate, List·getD-append}
-use lib.Seq.{paste, paste-zero, paste-suc, drop-paste, take-all, length-take-le, getD-take, getD-drop, getD-append-add}
+use lib.Seq.{paste, paste-suc, drop-paste, take-all, length-take-le, getD-take, getD-drop, getD-append-add}
 use lib.Ieee.{Float, ofBits, binary32}
 use Rattle.slices.specs.Slices.{laidAt, closedAt, putLeaves, closeLeaves}
 
