@@ -2,3 +2,4 @@
 mod Replies
 mod Places
 pub mod Named
+pub mod StateBytes
