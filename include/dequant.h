@@ -17,10 +17,11 @@ extern "C" {
 #define DEQUANT_ROW 128       /* numbers in the row of one kind */
 #define DEQUANT_ROWS 2176     /* numbers in the rows of a description: 17 kinds */
 #define DEQUANT_ARENA 394752  /* places of an arena of weights, and of the samples */
+#define DEQUANT_STATE 18      /* bytes of a short arena's state */
 
 enum dequant_reply {
     DEQUANT_DONE = 0,    /* finished; its values: see each call */
-    DEQUANT_LENT = 1,    /* a wrong length, kind > 16, channel > 2 or a stretch that leaves its arena; nothing changed */
+    DEQUANT_LENT = 1,    /* a wrong length, kind > 16, channel > 2, a stretch that leaves its arena or a spoilt state; nothing changed */
     DEQUANT_SHORT = 2,   /* kind, bit, lacks: the field there runs past the last bit, so many of its bits are not there; rows of earlier kinds are written */
     DEQUANT_MODE = 3,    /* kind, bit: mode not allowed for the kind; rows as SHORT */
     DEQUANT_FLOAT = 4,   /* kind, bit: a number with exponent 31; rows as SHORT */
@@ -31,7 +32,10 @@ enum dequant_reply {
     DEQUANT_ROOM = 9,    /* length needed; nothing changed */
     DEQUANT_TEXT = 10,   /* longest beginning shared with any record; nothing changed */
     DEQUANT_NONE = 11,   /* no JPEG values */
-    DEQUANT_DENOM = 12   /* kind: the lowest that is raw with a denominator of zero or below, whatever its samples; nothing changed */
+    DEQUANT_DENOM = 12,  /* kind: the lowest that is raw with a denominator of zero or below, whatever its samples; nothing changed */
+    DEQUANT_FULL = 13,   /* a short arena's free places are fewer than the kind needs; nothing changed */
+    DEQUANT_HELD = 17,   /* the short arena holds that kind already; nothing changed */
+    DEQUANT_GONE = 18    /* the short arena does not hold that kind; nothing changed */
 };
 
 /* With no order named a lookup shows the transposed part. */
@@ -80,6 +84,25 @@ uint32_t dequant_total(const float *arena, size_t arena_length, size_t first, si
    length, or kind > 16; the arena is as it was. */
 uint32_t dequant_replace_kind(float *arena, size_t arena_length, uint64_t total, size_t kind, const float *weights, size_t weights_length,
                               uint64_t *reply, size_t reply_length);
+
+/* A short arena: a slice of at most DEQUANT_ARENA weights, of any length, that holds the weights of some kinds in the order added, and beside
+   it a state of DEQUANT_STATE bytes: how many kinds are held, those kinds in the order added, and 0 behind them. A state of 18 zeros holds
+   nothing. Hand both to the next call as the last one left them: then each held kind has the very weights that it was added with. LENT for
+   each call: a longer arena, another number of bytes, more than 17 kinds, one above 16 or twice, a byte behind them that is not 0, kinds
+   that need more places than the arena has, or kind > 16.
+
+   Adds a kind's 3 x width x height weights behind those held. DONE: their first place, and how many they are. LENT also for another number of
+   weights; then HELD, then FULL. Slices that a call writes must not overlap. */
+uint32_t dequant_short_add(float *arena, size_t arena_length, uint8_t *state, size_t state_length, size_t kind,
+                           const float *weights, size_t weights_length, uint64_t *reply, size_t reply_length);
+
+/* Says where a kind's weights stand in a short arena. DONE: their first place, and how many they are; GONE. */
+uint32_t dequant_short_lookup(const float *arena, size_t arena_length, const uint8_t *state, size_t state_length, size_t kind,
+                              uint64_t *reply, size_t reply_length);
+
+/* Drops a kind: those added after it move down, and the places that come free at the end of what was in use become 0. DONE; GONE. */
+uint32_t dequant_short_drop(float *arena, size_t arena_length, uint8_t *state, size_t state_length, size_t kind,
+                            uint64_t *reply, size_t reply_length);
 
 #ifdef __cplusplus
 }

@@ -1,18 +1,23 @@
 #!/usr/bin/env python3
-"""Makes crates/arena_cases/stdin and crates/arena_cases/stdout from the vectors of tests/vectors with call=total or replace, and from a few
-runs of our own. A vector with reply_len is for the C face alone: examples/c/calls.c has it.
+"""Makes crates/arena_cases/stdin and crates/arena_cases/stdout from the vectors of tests/vectors with call=total, replace or short, and from a
+few runs of our own. A vector with reply_len, or with a state of another number of bytes, is for the C face alone: examples/c/calls.c and
+bindings/rust/tests/short.rs have them.
 
 A vector is a text file of key=value lines: arena and weights (mix:SEED or const:BITS, behind it P=BITS for each place that stands apart),
-arena_len and weights_len where they aren't the right ones, first, count, total and kind, and what the call must give. What the vectors
-want goes to stdout: the reply, and of an arena that may change whether it is unchanged, or else its total and the weights at the places
-that the vector lists, once the arena that they are of has the digest that the vector wants. Nothing of ours is run here."""
+arena_len and weights_len where they aren't the right ones, first, count, total and kind, and what the call must give; of a short arena its
+state and calls one after another (`add KIND RULE [LENGTH]`, `lookup KIND`, `drop KIND`), and what each must give. What the vectors
+want goes to stdout: the replies, of a lookup also the total of the part that the replies place, the state, and of an arena that may
+change whether it is unchanged, or else its total and the weights at the places that the vector lists, once the arena that they are of
+has the digest that the vector wants. Nothing of ours is run here."""
 import array
 import hashlib
 import struct
 
 from cases import ARENA, AREAS, vectors, write
 
-CALLS = {"total": 0, "replace": 1}
+CALLS = {"total": 0, "replace": 1, "short": 2}
+OPS = {"add": 0, "lookup": 1, "drop": 2}
+STATE = 18
 NAN = 0x7fc00000
 
 
@@ -53,6 +58,45 @@ def lengths(v):
     return length(v, "arena", ARENA), length(v, "weights", 3 * AREAS[kind] if kind < 17 else 192) if "weights" in v else 0
 
 
+def ops(v):
+    """of each call on a short arena: which, the kind, the weights' rule, and how many weights are lent"""
+    for op in v["ops"].split("|"):
+        which, kind, *given = op.split()
+        kind = int(kind)
+        right = 3 * AREAS[kind] if kind < 17 else 192
+        yield which, kind, given[0] if given else "const:0", int(given[1]) if given[1:] else right if given else 0
+
+
+def numbers(text):
+    return [int(x) for x in text.split(",") if x]
+
+
+def kept(v):
+    """what calls on a short arena must write, and the arena that they leave, by where the replies that the vector wants place the weights"""
+    arena = weights(v["arena"], int(v["arena_len"]))
+    state = numbers(v["state"])
+    held = [(k, 3 * AREAS[k]) for k in state[1:][:state[0]] if k < 17]
+    lines = []
+    for (which, kind, given, n), reply in zip(ops(v), v["want.replies"].split("|"), strict=True):
+        lines.append("reply=" + reply)
+        said, *part = map(int, reply.split())
+        first, length = part or (0, 0)
+        if which == "lookup":
+            lines.append("shown=%d" % total(arena[first:first + length], 0))
+        if which == "add" and said == 0:
+            arena[first:first + length] = weights(given, n)
+            held.append((kind, length))
+        if which == "drop" and said == 0:
+            before = [k for k, _ in held].index(kind)
+            at, end = sum(n for _, n in held[:before]), sum(n for _, n in held)
+            gone = held.pop(before)[1]
+            arena[at:end] = arena[at + gone:end] + [0] * gone
+    if v["want.state"] != "unchanged":
+        state = numbers(v["want.state"])
+        assert state == ([len(held)] + [k for k, _ in held] + [0] * STATE)[:STATE]
+    return lines + ["state=" + ",".join(map(str, state))], arena
+
+
 def after(v):
     """the arena that a replacement which is done leaves"""
     kind = int(v["kind"])
@@ -63,12 +107,15 @@ def after(v):
 
 
 def wanted(v):
-    lines = ["reply=" + v["want.reply"]]
+    lines, arena = kept(v) if v["call"] == "short" else (["reply=" + v["want.reply"]], None)
     if v["call"] == "total":
         return lines
     if v["want.arena"] == "unchanged":
         return lines + ["arena=unchanged"]
-    arena = after(v)
+    arena = arena or after(v)
+    if v["want.arena"] == "zero":
+        assert not any(arena)
+        return lines + ["arena=0"]
     assert hashlib.sha256(array.array("I", arena).tobytes()).hexdigest() == v["want.arena"]
     assert total(arena, 0) == int(v["want.arena.total64"])
     return lines + ["arena=%s,%s" % (v["want.arena.total64"], v["want.arena.at"])]
@@ -78,21 +125,30 @@ def two(n):
     return [n % 2**32, n // 2**32]
 
 
+def op_words(which, kind, given, n):
+    """the eight words of a call on a short arena"""
+    *by_rule, apart = rule(given)
+    assert not apart
+    return [OPS[which], *two(kind), n, *by_rule]
+
+
 def case(v, name, at):
     """the words of a case that begins at a byte, then the weights apart, its places and its name"""
     n, m = lengths(v)
     *arena, arena_apart = rule(v["arena"])
     *given, weights_apart = rule(v.get("weights", "const:0"))
-    lists = [[x for pair in apart for x in pair] for apart in (arena_apart, weights_apart)] + [places(v)]
-    words = 27
-    starts = [at + 4 * (words + sum(map(len, lists[:i]))) for i in range(4)]
-    head = [starts[3], len(name), CALLS[v["call"]], n, *arena, starts[0], len(lists[0]), m, *given, starts[1], len(lists[1]),
-            starts[2], len(lists[2])]
+    lists = [[x for pair in apart for x in pair] for apart in (arena_apart, weights_apart)]
+    lists += [places(v), numbers(v.get("state", "")), [x for op in (ops(v) if "ops" in v else ()) for x in op_words(*op)]]
+    words = 31
+    starts = [at + 4 * (words + sum(map(len, lists[:i]))) for i in range(6)]
+    listed = [x for pair in zip(starts, map(len, lists)) for x in pair]
+    head = [starts[5], len(name), CALLS[v["call"]], n, *arena, *listed[:2], m, *given, *listed[2:6]]
     for key in "first", "count", "total", "kind":
         head += two(int(v.get(key, 0)))
+    head += listed[6:]
     assert len(head) == words
-    numbers = head + sum(lists, [])
-    return struct.pack("<%dI" % len(numbers), *numbers) + name.encode()
+    every = head + sum(lists, [])
+    return struct.pack("<%dI" % len(every), *every) + name.encode()
 
 
 def runs():
@@ -108,7 +164,8 @@ def runs():
 
 
 def main():
-    cases = [(name, v) for name, v in vectors() if v["call"] in CALLS and "reply_len" not in v] + list(runs())
+    cases = [(name, v) for name, v in vectors() if v["call"] in CALLS and "reply_len" not in v]
+    cases = [(name, v) for name, v in cases if v["call"] != "short" or len(numbers(v["state"])) == STATE] + list(runs())
     write("arena_cases", [(name, v, "".join(line + "\n" for line in wanted(v)).encode()) for name, v in cases], case)
 
 

@@ -91,10 +91,34 @@ static void totals(void) {
     check(dequant_replace_kind(straight, DEQUANT_ARENA, 1, 0, transposed, 192, reply, 0) == DEQUANT_LENT && reply[0] == 5 && straight[0] == 1.0f, "a reply of no place, replacing");
 }
 
+static void short_arena(void) {
+    uint8_t state[DEQUANT_STATE + 1] = {0};
+    float room[1000];
+    for (int i = 0; i < 1000; i++)
+        room[i] = 5.0f;
+    for (int i = 0; i < 384; i++)
+        transposed[i] = 1.0f + (float)i;
+    check(dequant_short_add(room, 1000, state, DEQUANT_STATE, 6, transposed, 384, reply, 3) == DEQUANT_DONE && says(0, 384, 0) && state[0] == 1 && state[1] == 6, "kind 6 added");
+    check(dequant_short_add(room, 1000, state, DEQUANT_STATE, 0, transposed + 1, 192, reply, 3) == DEQUANT_DONE && says(384, 192, 0), "kind 0 added");
+    check(dequant_short_add(room, 1000, state, DEQUANT_STATE, 0, transposed, 192, reply, 3) == DEQUANT_HELD && says(0, 0, 0) && room[384] == 2.0f, "kind 0 again");
+    check(dequant_short_add(room, 1000, state, DEQUANT_STATE, 4, transposed, 768, reply, 3) == DEQUANT_FULL && says(0, 0, 0), "kind 4 in 424 places");
+    check(dequant_short_lookup(room, 1000, state, DEQUANT_STATE, 0, reply, 3) == DEQUANT_DONE && says(384, 192, 0), "kind 0 looked up");
+    check(dequant_short_drop(room, 1000, state, DEQUANT_STATE, 6, reply, 3) == DEQUANT_DONE && says(0, 0, 0) && state[0] == 1 && state[1] == 0 && state[2] == 0, "kind 6 dropped");
+    check(room[0] == 2.0f && room[191] == 193.0f && room[192] == 0.0f && room[575] == 0.0f && room[576] == 5.0f, "kind 0 moved down");
+    check(dequant_short_lookup(room, 1000, state, DEQUANT_STATE, 6, reply, 3) == DEQUANT_GONE && dequant_short_drop(room, 1000, state, DEQUANT_STATE, 6, reply, 3) == DEQUANT_GONE, "kind 6 is gone");
+    check(dequant_short_lookup(room, 1000, state, DEQUANT_STATE + 1, 0, reply, 3) == DEQUANT_LENT && dequant_short_lookup(room, 191, state, DEQUANT_STATE, 0, reply, 3) == DEQUANT_LENT, "a state of 19 bytes, and an arena that is too short for it");
+    reply[0] = 5;
+    check(dequant_short_drop(room, 1000, state, DEQUANT_STATE, 0, reply, 2) == DEQUANT_LENT && reply[0] == 5 && state[0] == 1 && room[0] == 2.0f, "a reply of two places, dropping");
+    check(dequant_short_add(room, 0, state, DEQUANT_STATE, 1, transposed, 192, reply, 3) == DEQUANT_LENT, "an arena of no places that is said to hold a kind");
+    state[0] = 0;
+    check(dequant_short_add(room, 0, state, DEQUANT_STATE, 1, transposed, 192, reply, 3) == DEQUANT_FULL, "an arena of no places");
+}
+
 int main(void) {
     reading();
     expanding();
     records();
     totals();
+    short_arena();
     return failed;
 }

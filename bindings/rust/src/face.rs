@@ -38,4 +38,16 @@ extern "C" {
         arena: *mut f32, arena_len: usize, total: u64, kind: usize, weights: *const f32, weights_len: usize,
         reply: *mut u64, reply_len: usize,
     ) -> u32;
+    pub fn dequant_short_add(
+        arena: *mut f32, arena_len: usize, state: *mut u8, state_len: usize, kind: usize,
+        weights: *const f32, weights_len: usize, reply: *mut u64, reply_len: usize,
+    ) -> u32;
+    pub fn dequant_short_lookup(
+        arena: *const f32, arena_len: usize, state: *const u8, state_len: usize, kind: usize,
+        reply: *mut u64, reply_len: usize,
+    ) -> u32;
+    pub fn dequant_short_drop(
+        arena: *mut f32, arena_len: usize, state: *mut u8, state_len: usize, kind: usize,
+        reply: *mut u64, reply_len: usize,
+    ) -> u32;
 }

@@ -2,8 +2,9 @@
 //!
 //! A header is read into *rows* (17 kinds of 128 numbers), rows and the samples of raw kinds are expanded into
 //! two *arenas* of weights, straight and transposed, and a lookup shows a part of one of them. Beside an arena goes its
-//! *total*, one number to compare first. Nothing is allocated: the caller lends every slice. Each call answers with a [`Reply`], and what a refusal leaves in the
-//! lent slices is fixed: see each function.
+//! *total*, one number to compare first. Where a whole arena is too much, a [`ShortArena`] keeps only the kinds in use. Nothing is
+//! allocated: the caller lends every slice. Each call answers with a [`Reply`], and what a refusal leaves in the lent slices is fixed: see each
+//! function.
 //!
 //! ```
 //! let mut rows = [0u16; dequant::ROWS];
@@ -17,6 +18,12 @@
 //! let other = vec![1f32; dequant::places(6)];
 //! let dequant::Reply::Done(after) = dequant::replace_kind(&mut straight, total, 6, &other) else { panic!() };
 //! assert_eq!(dequant::total(&straight, 0, dequant::ARENA), dequant::Reply::Done(after));
+//!
+//! let mut room = [0f32; 1000];
+//! let mut short = dequant::ShortArena::new(&mut room);
+//! assert_eq!(short.add(6, &other), dequant::Reply::Done(0));
+//! assert_eq!(short.lookup(6), Ok(&other[..]));
+//! assert_eq!(short.lookup(0), Err(dequant::Reply::Gone));
 //! ```
 #![warn(missing_docs)]
 
@@ -49,7 +56,7 @@ pub fn start(kind: usize) -> usize {
 #[derive(Debug, Clone, Copy, PartialEq, Eq, Hash)]
 #[rustfmt::skip]
 pub enum Reply {
-    /// 0: the call finished. Reading a header: the next bit. Writing a record: its length. Counting and replacing: the total. Else 0.
+    /// 0: the call finished. Reading a header: the next bit. Writing a record: its length. Counting and replacing: the total. Adding to a short arena: the first place. Else 0.
     Done(u64),
     /// 1: a lent slice has a wrong length, kind or channel is out of range, or a stretch leaves its arena. Nothing was changed.
     Lent,
@@ -75,6 +82,12 @@ pub enum Reply {
     None,
     /// 12: a raw kind's denominator is zero or below, whatever its samples. Nothing was changed.
     Denom { /** the lowest such kind */ kind: usize },
+    /// 13: the free places of a short arena are fewer than the kind needs. Nothing was changed.
+    Full,
+    /// 17: the short arena holds that kind already. Nothing was changed.
+    Held,
+    /// 18: the short arena does not hold that kind. Nothing was changed.
+    Gone,
 }
 
 impl Reply {
@@ -95,6 +108,9 @@ impl Reply {
             10 => Reply::Text { shared: a },
             11 => Reply::None,
             12 => Reply::Denom { kind },
+            13 => Reply::Full,
+            17 => Reply::Held,
+            18 => Reply::Gone,
             _ => unreachable!("the library has no reply {number}"),
         }
     }
@@ -224,4 +240,59 @@ pub fn replace_kind(arena: &mut [f32], total: u64, kind: usize, weights: &[f32])
             arena.as_mut_ptr(), arena.len(), total, kind, weights.as_ptr(), weights.len(), r, n,
         )
     })
+}
+
+/// Bytes of a short arena's state: how many kinds are held, and which, in the order added.
+const STATE: usize = 18;
+
+/// A short arena: the weights of some kinds, in the order added, in a lent slice of any length up to [`ARENA`]. It has the slice to itself
+/// and keeps the state beside it, so that the two cannot come apart: after any calls each held kind shows the very weights that
+/// it was added with.
+#[derive(Debug)]
+pub struct ShortArena<'a> {
+    arena: &'a mut [f32],
+    state: [u8; STATE],
+}
+
+#[rustfmt::skip]
+impl<'a> ShortArena<'a> {
+    /// An empty one, whatever the slice holds. Over more than [`ARENA`] places each call answers `Lent`.
+    pub fn new(arena: &'a mut [f32]) -> Self {
+        ShortArena { arena, state: [0; STATE] }
+    }
+
+    /// Adds a kind's 3 x width x height weights behind those held. `Done` has their first place. `Lent` for another number of weights or no
+    /// kind; then `Held`, which replaces nothing; then `Full`.
+    pub fn add(&mut self, kind: usize, weights: &[f32]) -> Reply {
+        let ShortArena { arena, state } = self;
+        reply(|r, n| unsafe {
+            face::dequant_short_add(
+                arena.as_mut_ptr(), arena.len(), state.as_mut_ptr(), STATE, kind, weights.as_ptr(), weights.len(), r, n,
+            )
+        })
+    }
+
+    /// Shows a kind's weights; else says why there are none: `Lent` for no kind, or `Gone`.
+    pub fn lookup(&self, kind: usize) -> Result<&[f32], Reply> {
+        let (number, values) = ask(|r, n| unsafe {
+            face::dequant_short_lookup(self.arena.as_ptr(), self.arena.len(), self.state.as_ptr(), STATE, kind, r, n)
+        });
+        match number {
+            0 => Ok(&self.arena[values[0] as usize..][..values[1] as usize]),
+            _ => Err(Reply::new(number, values)),
+        }
+    }
+
+    /// Drops a kind: those added after it move down, and the places that come free at the end of what was in use become 0.
+    pub fn drop_kind(&mut self, kind: usize) -> Reply {
+        let ShortArena { arena, state } = self;
+        reply(|r, n| unsafe {
+            face::dequant_short_drop(arena.as_mut_ptr(), arena.len(), state.as_mut_ptr(), STATE, kind, r, n)
+        })
+    }
+
+    /// The kinds held, in the order added.
+    pub fn kinds(&self) -> &[u8] {
+        &self.state[1..][..self.state[0] as usize]
+    }
 }

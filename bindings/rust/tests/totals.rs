@@ -1,28 +1,10 @@
 //! The total beside an arena, through the C face: document 02's vectors (two with a reply slice of another length are in examples/c/calls.c),
 //! and what the totals are for.
 mod common;
-use common::{Vector, number, vectors};
+use common::{Vector, bits, number, vectors, weights};
 use dequant::*;
 
 const NAN: u64 = 0x7fc0_0000;
-
-/// Weights by the rule of a vector: mix:SEED or const:BITS, then P=BITS for each place apart.
-fn weights(rule: &str, n: usize) -> Vec<f32> {
-    let mut parts = rule.split(';');
-    let bits = |hex| u32::from_str_radix(hex, 16).unwrap();
-    let mut all: Vec<f32> = match parts.next().unwrap().split_once(':').unwrap() {
-        ("mix", seed) => {
-            let seed: u64 = seed.parse().unwrap();
-            let word = |p: u64| (p * 2_654_435_761 + seed * 40503 + (p >> 7) * 97 + 12345) as u32 & 0xff7f_ffff;
-            (0..n as u64).map(|p| f32::from_bits(word(p))).collect()
-        }
-        (_, hex) => vec![f32::from_bits(bits(hex)); n],
-    };
-    for (place, hex) in parts.map(|part| part.split_once('=').unwrap()) {
-        all[place.parse::<usize>().unwrap()] = f32::from_bits(bits(hex));
-    }
-    all
-}
 
 /// The reply that a vector wants.
 fn wanted(v: &Vector) -> Reply {
@@ -31,10 +13,6 @@ fn wanted(v: &Vector) -> Reply {
         None if v["want.reply"] == "1" => Reply::Lent,
         _ => panic!("{v:?}"),
     }
-}
-
-fn bits(part: &[f32]) -> Vec<u32> {
-    part.iter().map(|w| w.to_bits()).collect()
 }
 
 #[test]

@@ -1,5 +1,6 @@
 // The calls on what a case names. A case is known by the byte at which it begins.
 use crate::lent::fill;
+use crate::short;
 use crate::shown::show_arena;
 use crate::shown::show_reply;
 use show::field;
@@ -29,8 +30,17 @@ const TOTAL: u32 = 23;
 
 const KIND: u32 = 25;
 
+const STATE: u32 = 27;
+
+const OPS: u32 = 29;
+
+// The calls, by their numbers.
+const TOTAL_OF: usize = 0;
+
+const REPLACE: usize = 1;
+
 // A number of two words, the low one first.
-fn number(s: &[u8], at: usize, j: u32) -> u64 {
+pub(crate) fn number(s: &[u8], at: usize, j: u32) -> u64 {
     let own = show::rest(s, at);
     let i = j as usize;
     let low = show::word(own, i);
@@ -56,12 +66,31 @@ fn replace(s: &[u8], at: usize, arena: &mut [f32], before: &[f32], weights: &[f3
     show_arena(arena, before, show::listed(s, at, PLACES));
 }
 
-fn cut_call(s: &[u8], at: usize, arena: &mut [f32], before: &[f32], weights: &[f32]) {
-    if field(s, at, CALL) == 0 {
-        count(s, at, arena);
-    } else {
-        replace(s, at, arena, before, weights);
+fn keep(s: &[u8], at: usize, arena: &mut [f32], before: &[f32], weights: &mut [f32]) {
+    short::run(
+        show::listed(s, at, OPS),
+        show::listed(s, at, STATE),
+        arena,
+        weights,
+    );
+    show_arena(arena, before, show::listed(s, at, PLACES));
+}
+
+fn cut_call(s: &[u8], at: usize, arena: &mut [f32], before: &[f32], weights: &mut [f32]) {
+    let m = field(s, at, WEIGHTS_LENGTH);
+    if weights.len() < m {
+        return;
     }
+    let which = field(s, at, CALL);
+    if which == TOTAL_OF {
+        count(s, at, arena);
+        return;
+    }
+    if which == REPLACE {
+        replace(s, at, arena, before, &weights[0..m]);
+        return;
+    }
+    keep(s, at, arena, before, weights);
 }
 
 // The arena twice, so that it is known what it was, and the weights, each by its rule and as long as the case says.
@@ -70,11 +99,10 @@ fn filled_call(s: &[u8], at: usize, arena: &mut [f32], before: &mut [f32], weigh
     fill(before, s, at, ARENA_RULE, ARENA_APART);
     fill(weights, s, at, WEIGHTS_RULE, WEIGHTS_APART);
     let n = field(s, at, ARENA_LENGTH);
-    let m = field(s, at, WEIGHTS_LENGTH);
-    if arena.len() < n || before.len() < n || weights.len() < m {
+    if arena.len() < n || before.len() < n {
         return;
     }
-    cut_call(s, at, &mut arena[0..n], &before[0..n], &weights[0..m]);
+    cut_call(s, at, &mut arena[0..n], &before[0..n], weights);
 }
 
 // The call that a case names. An arena may be lent one place too long.

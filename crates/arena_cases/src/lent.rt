@@ -34,7 +34,7 @@ fn stepped(sum: u32, p: usize, step: u32, jump: u32) -> u32 {
 }
 
 // The bits at place p are base + p x step + (p / 128) x jump, by 2^32, less those that the mask takes out.
-fn fill_by(part: &mut [f32], base: u32, step: u32, jump: u32, mask: u32) {
+pub(crate) fn fill_by(part: &mut [f32], base: u32, step: u32, jump: u32, mask: u32) {
     let mut p = 0;
     let mut sum = base;
     while p < part.len() {

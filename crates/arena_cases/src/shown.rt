@@ -18,6 +18,13 @@ pub(crate) fn show_reply(r: Total) {
     show::end();
 }
 
+// The total of a part that is shown.
+pub(crate) fn show_total(part: &[f32]) {
+    show::text(b"shown=");
+    show::decimal(show_weights::total(part));
+    show::end();
+}
+
 // Whether two parts have the same bits.
 fn same(a: &[f32], b: &[f32]) -> bool {
     let mut i = 0;
