@@ -10,8 +10,8 @@ use std::sync::Arc;
 
 pub type Side = Box<dyn FnMut() + Send>;
 
-/// One line of the table: ours and, where it has such a thing, the Rust's, over so many units. The Rust has no total: beside ours stands a
-/// plain read of the same memory.
+/// One line of the table: ours and, where it has such a thing, the Rust's, over so many units. The Rust has no total and no short arena: beside
+/// ours stand a plain read of the same memory, and the same copies by the standard library.
 pub struct Job {
     pub name: &'static str,
     pub unit: &'static str,
@@ -226,8 +226,35 @@ fn replace() -> Job {
     Job { name: "replace", unit: "weight", units: dequant::places(kind), ours: Box::new(ours), rust: None }
 }
 
+/// A short arena: a small kind and the largest added, and the small one dropped, so that the largest moves down. Beside it the same copies
+/// by the standard library.
+fn keep() -> Job {
+    let (small, large) = (6, 15);
+    let all = defaults();
+    let weights = Arc::new([small, large].map(|kind| all[dequant::start(kind)..][..dequant::places(kind)].to_vec()));
+    let same = Arc::clone(&weights);
+    let (first, second) = (dequant::places(small), dequant::places(large));
+    let mut arena = vec![0f32; first + second];
+    let mut other = arena.clone();
+    let ours = move || {
+        let mut short = dequant::ShortArena::new(black_box(&mut arena));
+        assert_eq!(short.add(small, &weights[0]), Reply::Done(0));
+        assert_eq!(short.add(large, &weights[1]), Reply::Done(first as u64));
+        assert_eq!(short.drop_kind(small), Reply::Done(0));
+        assert_eq!(short.lookup(large).map(|part| part.len()), Ok(second));
+    };
+    let plain = move || {
+        let arena = black_box(&mut other);
+        arena[..first].copy_from_slice(&same[0]);
+        arena[first..].copy_from_slice(&same[1]);
+        arena.copy_within(first.., 0);
+        arena[second..].fill(0.0);
+    };
+    Job { name: "keep", unit: "weight", units: second, ours: Box::new(ours), rust: Some(Box::new(plain)) }
+}
+
 /// All jobs, each made when it is run.
-pub const ALL: [fn() -> Job; 11] = [
+pub const ALL: [fn() -> Job; 12] = [
     || set("default", vec![1], vec![]),
     || set("bands16", sixteen_bands(), vec![]),
     || {
@@ -242,4 +269,5 @@ pub const ALL: [fn() -> Job; 11] = [
     jpeg,
     total,
     replace,
+    keep,
 ];

@@ -25,7 +25,7 @@ use Rattle.short_arena.specs.Short.{shortReply, lentRight, addAnswer, ad
 use Rattle.short_arena.specs.Calls.{AddRight, Call, adding, finding, dropping, Noted, note, Left, call, calls, begun, withDone, seen, isNoted, sumBelow, notedPlaces}
 use Rattle.short_arena.proofs.Lending.{is-right, right-is, no-kind}
 use Rattle.short_arena.proofs.Sums.{sum-is, same-below, few}
-use Rattle.short_arena.proofs.Answers.{start-fits, add-held, add-full}
+use Rattle.short_arena.proofs.Answers.{start-fits, add-held, add-full, find-says, shows-part, add-says, add-lays}
 use Rattle.short_arena.proofs.Order.{or-true, or-false, held-small, held-snoc, single-snoc, places-snoc, start-last, start-before, gone, held-other, single-without, places-without, either}
 
 -- the part of a kind that is held
@@ -343,6 +343,32 @@ module _ (a : List Float) (cs : List Call) (h : length a ≤ 394752) (k : ℕ) (
     λ e. held-noted d good k ∙ gone-exactly (length (d .arena)) (d .state) k .0 e .1,
     λ e. gone-exactly (length (d .arena)) (d .state) k .1 (lent-on d good k l, sym (held-noted d good k) ∙ e),
   )
+
+-- ---- the places that a reply says are those of the weights
+part-said : (r : Answer) (f p : ℕ) → shortReply r ≡ 0 ∷ f ∷ p ∷ [] → Part f p ≡ r
+part-said Done f p e = absurd (omega (arith, ap length e))
+part-said (Part x y) f p e = sym (ap (λ (l : List ℕ). Part (getD l 1 0) (getD l 2 0)) e)
+part-said Lent f p e = absurd (apart 1 0 [] (f ∷ p ∷ []) refl e)
+part-said Held f p e = absurd (apart 17 0 [] (f ∷ p ∷ []) refl e)
+part-said Full f p e = absurd (apart 13 0 [] (f ∷ p ∷ []) refl e)
+part-said Gone f p e = absurd (apart 18 0 [] (f ∷ p ∷ []) refl e)
+
+-- looking up: the part there is the one that is shown
+pub found-there : (a : List Float) (s : State) (k f p : ℕ) → shortReply (findAnswer (length a) s k) ≡ 0 ∷ f ∷ p ∷ [] → take p (drop f a) ≡ shown a s k
+found-there a s k f p e =
+    let i = part-said (findAnswer (length a) s k) f p e in
+    let g = find-says (length a) s k f p i in
+    ap (λ (n : ℕ). take p (drop n a)) (g .first) ∙ ap (λ (n : ℕ). take n (drop (startIn (heldOf s) k) a)) (g .places) ∙ shows-part a s k f p i
+
+-- adding: the part there is then the weights
+pub added-there : (a : List Float) (s : State) (k : ℕ) (ws : List Float) (f p : ℕ) → shortReply (addAnswer (length a) s k (length ws)) ≡ 0 ∷ f ∷ p ∷ [] → take p (drop f (addArena a s k ws)) ≡ ws
+added-there a s k ws f p e =
+    let i = part-said (addAnswer (length a) s k (length ws)) f p e in
+    let g = add-says (length a) s k (length ws) f p i in
+    ap (λ (l : List Float). take p (drop f l)) (sym (add-lays a s k ws f p i))
+    ∙ ap (λ (n : ℕ). take p (drop n (laidAt (placesIn (heldOf s)) ws a))) (g .first)
+    ∙ ap (λ (n : ℕ). take n (drop (placesIn (heldOf s)) (laidAt (placesIn (heldOf s)) ws a))) (g .places ∙ sym (g .weights))
+    ∙ laid-at a ws (placesIn (heldOf s)) (g .right .room)
 
 -- ---- what a drop leaves behind the places in use: 0 where places came free, and the others as they were
 pub freed-zero : (a : List Float) (s : State) (k : ℕ) → shortReply (dropAnswer (length a) s k) ≡ 0 ∷ []
