@@ -92,7 +92,7 @@ uint32_t dequant_replace_kind(float *arena, size_t arena_length, uint64_t total,
    that need more places than the arena has, or kind > 16.
 
    Adds a kind's 3 x width x height weights behind those held. DONE: their first place, and how many they are. LENT also for another number of
-   weights; then HELD, then FULL. Slices that a call writes must not overlap. */
+   weights; then HELD, which replaces nothing; then FULL. */
 uint32_t dequant_short_add(float *arena, size_t arena_length, uint8_t *state, size_t state_length, size_t kind,
                            const float *weights, size_t weights_length, uint64_t *reply, size_t reply_length);
 

@@ -108,7 +108,7 @@ held-other (i ∷ ks) k j n = go (eqb i k) refl (held-other ks k j n)
     go true q r = rw (ne-eqb i j (λ e. n (sym e ∙ eqb-true i k q))) r
     go false q r = ap (λ (b : Bool). eqb i j || b) r
 
-pub without-none : (ks : List ℕ) (k : ℕ) → isHeld ks k ≡ false → without ks k ≡ ks
+without-none : (ks : List ℕ) (k : ℕ) → isHeld ks k ≡ false → without ks k ≡ ks
 unfolding isHeld without
 without-none [] k a = refl
 without-none (j ∷ ks) k a =

@@ -50,17 +50,19 @@ leaves Held new old = old
 leaves Full new old = old
 leaves Gone new old = old
 
--- after adding: the kind behind the others, its weights behind the places in use
+-- the state after adding: the kind behind the others
 unfoldable pub addState : ℕ → State → ℕ → ℕ → State
 addState n s k m = leaves (addAnswer n s k m) (stateOf (heldOf s ++ k ∷ [])) s
 
+-- the arena after adding: the weights behind the places in use
 unfoldable pub addArena : List Float → State → ℕ → List Float → List Float
 addArena a s k ws = leaves (addAnswer (length a) s k (length ws)) (laidAt (placesIn (heldOf s)) ws a) a
 
--- after dropping: the other kinds, the later ones' weights moved down, and 0 in the places that came free at the end
+-- the state after dropping: the other kinds
 unfoldable pub dropState : ℕ → State → ℕ → State
 dropState n s k = leaves (dropAnswer n s k) (stateOf (without (heldOf s) k)) s
 
+-- the arena after dropping: the later kinds' weights moved down, and 0 in the places that came free at the end
 unfoldable pub dropArena : List Float → State → ℕ → List Float
 dropArena a s k =
     leaves (dropAnswer (length a) s k) (closedAt (ofBits binary32 0) (startIn (heldOf s) k) (placesOf k) (placesIn (heldOf s)) a) a

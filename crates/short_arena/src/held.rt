@@ -78,6 +78,7 @@ pub(crate) fn start_in(held: &[usize], kind: usize) -> usize
     at
 }
 
+// Whether nothing but 0 stands there.
 fn all_zero(l: &[usize]) -> bool
     ensures { λ r. ⌜ r ≡ allZero (now (l .entry)) ⌝ }
 {
