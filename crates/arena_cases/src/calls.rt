@@ -5,7 +5,8 @@ use crate::shown::show_arena;
 use crate::shown::show_reply;
 use show::field;
 
-// The words of a case, by their numbers: the call, lengths, rules with their lists of weights apart, places, and numbers of two words.
+// The words of a case, by their numbers: the call, lengths, rules with their lists of weights apart, places, numbers of two words, and a
+// short arena's state and calls.
 const CALL: usize = 2;
 
 const ARENA_LENGTH: usize = 3;
