@@ -179,6 +179,45 @@ module _ (d : Left) (g : Good d) (k : ℕ) where
       go true false q = g
       go false y q = g
 
+-- ---- no call changes how many places there are, whatever is lent
+add-length : (a : List Float) (s : State) (k : ℕ) (ws : List Float) → length (addArena a s k ws) ≡ length a
+unfolding addArena addAnswer
+add-length a s k ws = go (eqb (length ws) (placesOf k) && lentRight (length a) s k) (isHeld (heldOf s) k) (ltb (length a - placesIn (heldOf s)) (placesOf k)) refl refl
+  where
+    long : Answer → Type 0
+    long r = length (leaves r (laidAt (placesIn (heldOf s)) ws a) a) ≡ length a
+
+    go : (x y z : Bool) → (eqb (length ws) (placesOf k) && lentRight (length a) s k) ≡ x → ltb (length a - placesIn (heldOf s)) (placesOf k) ≡ z
+        → long (cond x (cond y Held (cond z Full (Part (placesIn (heldOf s)) (placesOf k)))) Lent)
+    go true true z p r = refl
+    go true false true p r = refl
+    go true false false p r =
+        let m = eqb-true (length ws) (placesOf k) (left (eqb (length ws) (placesOf k)) (lentRight (length a) s k) p) in
+        let g = is-right (length a) s k (right (eqb (length ws) (placesOf k)) (lentRight (length a) s k) p) in
+        laid-at-length a ws (placesIn (heldOf s)) (omega (arith, g .room, ltb-false (length a - placesIn (heldOf s)) (placesOf k) r))
+    go false y z p r = refl
+
+drop-length : (a : List Float) (s : State) (k : ℕ) → length (dropArena a s k) ≡ length a
+unfolding dropArena dropAnswer
+drop-length a s k = go (lentRight (length a) s k) (isHeld (heldOf s) k) refl refl
+  where
+    long : Answer → Type 0
+    long r = length (leaves r (closedAt (ofBits binary32 0) (startIn (heldOf s) k) (placesOf k) (placesIn (heldOf s)) a) a) ≡ length a
+
+    go : (x y : Bool) → lentRight (length a) s k ≡ x → isHeld (heldOf s) k ≡ y → long (cond x (cond y Done Gone) Lent)
+    go true true p q = closed-length a (ofBits binary32 0) (startIn (heldOf s) k) (placesOf k) (placesIn (heldOf s)) (start-fits (heldOf s) k q) (is-right (length a) s k p .room)
+    go true false p q = refl
+    go false y p q = refl
+
+call-length : (c : Call) (d : Left) → length (call c d .arena) ≡ length (d .arena)
+call-length (adding k ws) d = add-length (d .arena) (d .state) k ws
+call-length (finding k) d = refl
+call-length (dropping k) d = drop-length (d .arena) (d .state) k
+
+pub calls-length : (cs : List Call) (d : Left) → length (calls cs d .arena) ≡ length (d .arena)
+calls-length [] d = refl
+calls-length (c ∷ cs) d = calls-length cs (call c d) ∙ call-length c d
+
 -- ---- any list of calls
 call-good : (c : Call) (d : Left) → Good d → Good (call c d)
 call-good (adding k ws) d g = add-good d g k ws
@@ -329,10 +368,11 @@ module _ (a : List Float) (cs : List Call) (h : length a ≤ 394752) (k : ℕ) (
     λ e. held-exactly (length (d .arena)) (d .state) k (placesOf k) .1 ((refl, lent-on d good k l), sym (held-noted d good k) ∙ e),
   )
 
-  -- FULL exactly if it was not, and the free places are fewer than it needs
-  pub full-after : (shortReply (addAnswer (length (d .arena)) (d .state) k (placesOf k)) ≡ 13 ∷ []) ↔ ((isNoted (d .noted k) ≡ false) × (length (d .arena) - notedPlaces d < placesOf k))
+  -- FULL exactly if it was not, and the free places are fewer than it needs: those of the arena less those of the kinds that were
+  pub full-after : (shortReply (addAnswer (length (d .arena)) (d .state) k (placesOf k)) ≡ 13 ∷ []) ↔ ((isNoted (d .noted k) ≡ false) × (length a - notedPlaces d < placesOf k))
   full-after =
-      let p = places-noted d good in (
+      let p = places-noted d good in
+      let n = calls-length cs (begun a) in (
         λ e. let f = full-exactly (length (d .arena)) (d .state) k (placesOf k) .0 e in let i = f .2 in (held-noted d good k ∙ f .1, omega arith),
         λ (e, f). full-exactly (length (d .arena)) (d .state) k (placesOf k) .1 ((refl, lent-on d good k l), sym (held-noted d good k) ∙ e, omega arith),
       )
