@@ -1,13 +1,13 @@
 -- Bytes and states: the way there and back, and that the states which calls leave are bytes. Assumes nothing.
 use mathlib.Core.Path.{_≡_, refl, sym, ap, _∙_}
-use mathlib.Core.Bool.{Bool, true, false, cond, _&&_}
+use mathlib.Core.Bool.{Bool, true, false, cond, _&&_, and-false}
 use mathlib.Core.List.{List, [], _∷_, _++_, append-nil}
 use Prim.Native.Nat.{ℕ, zero, suc, _+_, _-_, _≤_, _<_}
 use native.Mathlib.Decide.{ℕ-discrete}
 use native.Mathlib.Omega.{arith}
 use borrow.Author.Tests.{eq-eqb, ne-eqb}
 use lib.Dec.{eqb, ltb, leb, lit<}
-use lib.ListN.{length, getD, take, drop, set, replicate, length-append, drop-of-length-le}
+use lib.ListN.{length, getD, take, drop, set, replicate, length-append, length-take, drop-of-length-le}
 use lib.Seq.{paste, take-all}
 use Rattle.transform.specs.Kinds.{placesOf}
 use Rattle.transform.proofs.Chain.{right}
@@ -41,12 +41,9 @@ module _ (b : List ℕ) where
 -- another number of bytes is LENT, whatever else is lent
 pub other-lent : (n : ℕ) (b : List ℕ) (k : ℕ) → (length b ≡ 18 → ⊥) → lentRight n (stateIn b) k ≡ false
 unfolding lentRight
-other-lent n b k h = ap (λ (s : State). lentRight n s k) (sym (other-state b h)) ∙ go (ltb k 17) (leb n 394752)
-  where
-    go : (x y : Bool) → (x && (y && false)) ≡ false
-    go true true = refl
-    go true false = refl
-    go false y = refl
+other-lent n b k h =
+    ap (λ (s : State). lentRight n s k) (sym (other-state b h))
+    ∙ ap (λ (x : Bool). ltb k 17 && x) (and-false (leb n 394752)) ∙ and-false (ltb k 17)
 
 -- there and back
 bytes-back : (b : List ℕ) → putBytes b (stateIn b) ≡ b
@@ -81,11 +78,7 @@ put-back b r new f = go (ℕ-discrete (length b) 18)
 module _ (n : ℕ) (b : List ℕ) (k : ℕ) where
   add-other : (m : ℕ) → (length b ≡ 18 → ⊥) → addAnswer n (stateIn b) k m ≡ Lent
   unfolding addAnswer
-  add-other m h = rw (none (eqb m (placesOf k)))
-    where
-      none : (x : Bool) → (x && lentRight n (stateIn b) k) ≡ false
-      none true = other-lent n b k h
-      none false = refl
+  add-other m h = rw (other-lent n b k h, and-false (eqb m (placesOf k)))
 
   drop-other : (length b ≡ 18 → ⊥) → dropAnswer n (stateIn b) k ≡ Lent
   unfolding dropAnswer
@@ -161,11 +154,6 @@ of-small : (ks : List ℕ) → length ks < 256 → Bytes ks → Small (stateOf k
 of-small ks h f = record { count = h; kinds = all-append ks (replicate (17 - length ks) 0) f (all-zero (17 - length ks)) }
 
 -- ---- the states that calls leave are small
-take-short : (n : ℕ) (l : List ℕ) → length (take n l) ≤ n
-take-short zero l = omega arith
-take-short (suc n) [] = omega arith
-take-short (suc n) (x ∷ l) = let h = take-short n l in omega arith
-
 without-short : (l : List ℕ) (k : ℕ) → length (without l k) ≤ length l
 unfolding without
 without-short [] k = omega arith
@@ -189,7 +177,7 @@ module _ (n : ℕ) (s : State) (k : ℕ) (g : Small s) where
       go true false false p =
           let r = is-right n s k (right (eqb m (placesOf k)) (lentRight n s k) p) in
           let c = r .count in
-          let t = take-short (s .count) (s .kinds) in
+          let t = length-take (s .count) (s .kinds) in
           let l = length-append (heldOf s) (k ∷ []) in
           let h = r .kind in
           of-small (heldOf s ++ k ∷ []) (omega arith) (all-append (heldOf s) (k ∷ []) (all-take (s .count) (s .kinds) (g .kinds)) (all-cons k [] (omega arith) (all-zero 0)))
@@ -205,7 +193,7 @@ module _ (n : ℕ) (s : State) (k : ℕ) (g : Small s) where
       go : (x y : Bool) → lentRight n s k ≡ x → P (cond x (cond y Done Gone) Lent)
       go true true p =
           let c = is-right n s k p .count in
-          let t = take-short (s .count) (s .kinds) in
+          let t = length-take (s .count) (s .kinds) in
           let w = without-short (heldOf s) k in
           of-small (without (heldOf s) k) (omega arith) (all-without (heldOf s) k (all-take (s .count) (s .kinds) (g .kinds)))
       go true false p = g

@@ -11,7 +11,8 @@ use lib.ListN.{length, getD, take, drop}
 use lib.Seq.{getD-take, getD-drop}
 use Rattle.bitstream.specs.Half.{barred}
 use Rattle.params.specs.Row.{fixed, lists, allowed}
-use Rattle.params.specs.Allowed.{allFine, allZero, countOk, entryRow, flagRow, rowAllowed}
+use Rattle.params.specs.Allowed.{allFine, countOk, entryRow, flagRow, rowAllowed}
+use Rattle.transform.specs.Zeros.{allZero}
 use Rattle.params.proofs.AllowedLaws.{and-true}
 
 zero-at : (l : List ℕ) (i : ℕ) → allZero l ≡ true → barred (getD l i 0) ≡ false

@@ -1,12 +1,11 @@
 -- An answer by the number of its reply: DONE names one case of each enum, SHORT and RAW one of reading, and DENOM one of expanding. Assumes nothing.
 use mathlib.Core.Path.{_≡_, refl, ap}
-use mathlib.Core.Bool.{false}
 use mathlib.Core.List.{List, [], _∷_}
 use Prim.Native.Nat.{ℕ, suc}
 use native.Mathlib.Omega.{arith}
-use borrow.Author.Tests.{eqb-false, ne-eqb}
-use lib.Dec.{eqb}
+use borrow.Author.Tests.{ne-eqb}
 use lib.ListN.{getD}
+use Rattle.transform.proofs.Numbered.{differs}
 use Rattle.params.specs.declared.read.Reading.{Reading}
 use Rattle.params.specs.declared.read.Reading.the-variants as reading
 use Rattle.params.specs.Header.{replyOf as readReply}
@@ -16,10 +15,6 @@ use Rattle.matrix.specs.Expanded.{replyOf}
 use Rattle.dequant.specs.declared.jpeg.Jpeg.{Jpeg}
 use Rattle.dequant.specs.declared.jpeg.Jpeg.the-variants as jpeg
 use Rattle.dequant.specs.Jpeg.{jpegNumbers}
-
--- replies of two numbers are not the same
-pub differs : (a b : ℕ) (l m : List ℕ) → eqb a b ≡ false → a ∷ l ≡ b ∷ m → ⊥
-differs a b l m n e = eqb-false a b n (ap (λ (l : List ℕ). getD l 0 0) e)
 
 -- another number is not DONE's
 pub other : (n : ℕ) (l m : List ℕ) → suc n ∷ l ≡ 0 ∷ m → ⊥

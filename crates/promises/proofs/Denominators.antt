@@ -36,7 +36,8 @@ use Rattle.matrix.proofs.Said.{says-denom, raw-at}
 use Rattle.dequant.specs.Set.{setLent, denomFault, kindsAnswer, expandSet}
 use Rattle.dequant.proofs.Kindwise.{mode-at, refusal-leaves}
 use Rattle.dequant.proofs.Lent.{given, notOdd, denoms-above, says-denom as set-says-denom}
-use Rattle.promises.proofs.ByNumber.{differs, denom-only}
+use Rattle.promises.proofs.ByNumber.{denom-only}
+use Rattle.transform.proofs.Numbered.{differs}
 use Rattle.promises.proofs.RowsChecked.{done-fault}
 use Rattle.promises.proofs.RowRule.{rawRow}
 use Rattle.promises.proofs.Accepts.{lent-alone}

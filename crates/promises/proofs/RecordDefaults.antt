@@ -14,7 +14,8 @@ use Rattle.transform.specs.First.{before}
 use native.Mathlib.Nat.{le-of-eq}
 use Rattle.transform.proofs.FirstLaws.{before-each}
 use Rattle.params.specs.Row.{lists}
-use Rattle.params.specs.Allowed.{allZero, entryRow, flagRow, rowAllowed, rowAt, modeAt}
+use Rattle.params.specs.Allowed.{entryRow, flagRow, rowAllowed, rowAt, modeAt}
+use Rattle.transform.specs.Zeros.{allZero}
 use Rattle.params.specs.Header.{allDefault}
 use Rattle.params.proofs.AllowedLaws.{and-true}
 use Rattle.params.proofs.FaultLaws.{fault-flag, fault-modes}

@@ -11,8 +11,10 @@ use lib.Seq.{drop-at}
 use lib.Dec.{T, eqb, leb, ltb}
 use Rattle.bitstream.specs.Half.{barred}
 use Rattle.params.specs.Row.{fixed, lists, allowed}
-use Rattle.params.specs.Allowed.{allFine, allZero, countOk, entryRow}
-use Rattle.params.proofs.AllowedLaws.{and-true, and-both, of-zeros}
+use Rattle.params.specs.Allowed.{allFine, countOk, entryRow}
+use Rattle.transform.specs.Zeros.{allZero}
+use Rattle.params.proofs.AllowedLaws.{and-true, and-both}
+use Rattle.transform.proofs.ZeroLaws.{of-zeros}
 use Rattle.record.specs.Format.{Format, seqs, uncons}
 use Rattle.record.specs.Text.{bytes}
 use Rattle.record.specs.Number.{isDigit, number, signed}

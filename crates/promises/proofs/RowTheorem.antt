@@ -18,10 +18,12 @@ use Rattle.bitstream.proofs.Bytes.{bytesOf, bytesOf-bytes}
 use Rattle.params.specs.declared.read.Reading.the-variants.{Done, Raw}
 use Rattle.params.specs.Row.{on, entry}
 use Rattle.params.specs.Header.{Outcome, gives, allDefault, putRow, kindIs, kinds, readHeader}
-use Rattle.params.specs.Allowed.{allZero, entryRow, flagRow, rowAllowed, rowAt}
+use Rattle.params.specs.Allowed.{entryRow, flagRow, rowAllowed, rowAt}
+use Rattle.transform.specs.Zeros.{allZero}
 use Rattle.params.proofs.Written.{Field, bits, span, Spells, Sized, Written}
 use Rattle.params.proofs.SetLaws.{kind-done, kinds-step, kinds-stays, header-resume, header-default, header-all}
-use Rattle.params.proofs.AllowedLaws.{and-true, zeros-of}
+use Rattle.params.proofs.AllowedLaws.{and-true}
+use Rattle.transform.proofs.ZeroLaws.{zeros-of}
 use Rattle.params.proofs.FaultLaws.{allowed-none, allowed-entry, allowed-other, allowed-flag}
 use Rattle.dequant.proofs.Kindwise.{mode-at}
 use Rattle.promises.proofs.ReadWritten.{entry-spelt}

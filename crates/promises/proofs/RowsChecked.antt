@@ -17,7 +17,8 @@ use Rattle.params.specs.Allowed.{entryRow, rowAllowed, rowAt, modeAt, flagFault
 use Rattle.params.proofs.FaultLaws.{allowed-entry, check-lent, check-row, check-done}
 use Rattle.dequant.proofs.Lent.{rows-fine}
 use Rattle.record.proofs.SetStores.{row-first}
-use Rattle.promises.proofs.ByNumber.{other, differs}
+use Rattle.promises.proofs.ByNumber.{other}
+use Rattle.transform.proofs.Numbered.{differs}
 use Rattle.promises.proofs.RowRule.{Small, small-row, entry-flag}
 use Rattle.promises.proofs.RowTheorem.{Writes, allowed-writes, writes-allowed, fails-unwritten}
 

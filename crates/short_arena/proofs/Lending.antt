@@ -9,7 +9,8 @@ use lib.Dec.{ltb, leb}
 use lib.ListN.{length, drop, length-map}
 use lib.Seq.{length-take-le}
 use Rattle.short_arena.specs.declared.held.State.{State}
-use Rattle.short_arena.specs.Held.{heldOf, single, placesIn, allZero}
+use Rattle.short_arena.specs.Held.{heldOf, single, placesIn}
+use Rattle.transform.specs.Zeros.{allZero}
 use Rattle.short_arena.specs.Short.{lentRight}
 use Rattle.transform.proofs.Chain.{here, next, left, right}
 

@@ -1,6 +1,6 @@
 -- One kind more and one fewer: which are held then, and where each starts. Assumes nothing.
 use mathlib.Core.Path.{_≡_, refl, sym, ap, _∙_}
-use mathlib.Core.Bool.{Bool, true, false, cond, not, _||_, true≢false}
+use mathlib.Core.Bool.{Bool, true, false, cond, not, _||_, true≢false, or-false}
 use mathlib.Core.Logic.{_⊎_, inl, inr, ⊎-elim}
 use mathlib.Core.List.{List, [], _∷_, _++_}
 use Prim.Native.Nat.{ℕ, _+_, _≤_, _<_}
@@ -10,14 +10,6 @@ use lib.Dec.{eqb, ltb}
 use Rattle.transform.specs.Kinds.{placesOf}
 use Rattle.short_arena.specs.Held.{isHeld, single, sumOver, placesIn, startIn, without}
 use Rattle.transform.proofs.Chain.{left, right}
-
-pub or-true : (b : Bool) → (b || true) ≡ true
-or-true true = refl
-or-true false = refl
-
-pub or-false : (b : Bool) → (b || false) ≡ b
-or-false true = refl
-or-false false = refl
 
 -- neither of two
 neither : (a b : Bool) → (a || b) ≡ false → (a ≡ false) × (b ≡ false)

@@ -5,20 +5,15 @@ use mathlib.Core.List.{List, [], _∷_, _++_, append-nil}
 use Prim.Native.Nat.{ℕ, suc, _+_, _-_, _≤_, _<_}
 use native.Mathlib.Numerals.{add-one}
 use native.Mathlib.Omega.{arith}
-use borrow.Author.Tests.{eq-eqb, ne-eqb, eqb-true}
+use borrow.Author.Tests.{eq-eqb, ne-eqb}
 use lib.Dec.{eqb}
 use lib.ListN.{length, getD, take, drop, set, replicate, length-append, length-drop, take-append-drop}
 use lib.Seq.{take-all, length-take-le, set-split, drop-cons, append-snoc, take-suc, set-at}
 use Rattle.short_arena.specs.declared.held.State.{State}
-use Rattle.short_arena.specs.Held.{heldOf, stateOf, without, allZero}
-use Rattle.transform.proofs.Chain.{left, right}
-
--- what is all zero is that many zeros
-pub zeros : (l : List ℕ) → allZero l ≡ true → l ≡ replicate (length l) 0
-unfolding allZero
-zeros [] e = refl
-zeros (x ∷ l) e =
-    ap (λ (n : ℕ). n ∷ l) (eqb-true x 0 (left (eqb x 0) (allZero l) e)) ∙ ap (λ (r : List ℕ). 0 ∷ r) (zeros l (right (eqb x 0) (allZero l) e))
+use Rattle.short_arena.specs.Held.{heldOf, stateOf, without}
+use Rattle.transform.specs.Zeros.{allZero}
+use Rattle.transform.proofs.ZeroLaws.{zeros-of}
+use Rattle.transform.proofs.Chain.{right}
 
 -- what stands behind n of 17
 pub rest-is : (n : ℕ) (l : List ℕ) → length l ≡ 17 → take (17 - n) (drop n l) ≡ drop n l
@@ -42,10 +37,9 @@ module _ (n : ℕ) (l : List ℕ) (k : ℕ) (e : length l ≡ 17) (h : n < 17) (
   count-more = length-append (take n l) (k ∷ []) ∙ ap (λ (m : ℕ). m + 1) (length-take-le n l (omega arith))
 
   later-zeros : drop (suc n) l ≡ replicate (17 - (n + 1)) 0
-  unfolding allZero
   later-zeros =
       let z1 : allZero (getD l n 0 ∷ drop (suc n) l) ≡ true = sym (ap allZero (drop-cons l n 0 fits)) ∙ z in
-      zeros (drop (suc n) l) (right (eqb (getD l n 0) 0) (allZero (drop (suc n) l)) z1)
+      zeros-of (drop (suc n) l) (right (eqb (getD l n 0) 0) (allZero (drop (suc n) l)) z1)
       ∙ ap (λ (m : ℕ). replicate m 0) (length-drop (suc n) l ∙ ap (λ (m : ℕ). m - suc n) e ∙ ap (λ (m : ℕ). 17 - m) (sym (add-one n)))
 
   pub state-more : _≡_ {A = State} (record { count = n + 1; kinds = set l n k }) (stateOf (take n l ++ k ∷ []))
@@ -61,7 +55,7 @@ state-same s e h z =
     let c : s .count ≡ length (heldOf s) = sym (length-take-le (s .count) (s .kinds) (omega arith)) in
     same-state (s .count) (length (heldOf s)) (s .kinds) (padded (heldOf s)) c
     (sym (take-append-drop (s .count) (s .kinds))
-    ∙ ap (λ (r : List ℕ). heldOf s ++ r) (zeros (drop (s .count) (s .kinds)) z ∙ ap (λ (m : ℕ). replicate m 0) (length-drop (s .count) (s .kinds) ∙ ap (λ (m : ℕ). m - s .count) e ∙ ap (λ (m : ℕ). 17 - m) c)))
+    ∙ ap (λ (r : List ℕ). heldOf s ++ r) (zeros-of (drop (s .count) (s .kinds)) z ∙ ap (λ (m : ℕ). replicate m 0) (length-drop (s .count) (s .kinds) ∙ ap (λ (m : ℕ). m - s .count) e ∙ ap (λ (m : ℕ). 17 - m) c)))
 
 -- ---- a loop that leaves one kind out
 without-snoc : (l : List ℕ) (x k : ℕ) → without (l ++ x ∷ []) k ≡ without l k ++ cond (eqb x k) [] (x ∷ [])

@@ -1,11 +1,11 @@
 -- The short arena: after any list of calls each kind shows the weights that it was added with, and the places in use are those of the kinds
 -- added and not dropped since. Each refusal, exactly when; and what a drop leaves behind the places in use. Assumes nothing.
 use mathlib.Core.Path.{_≡_, refl, sym, ap, _∙_, subst}
-use mathlib.Core.Bool.{Bool, true, false, cond, _&&_, _||_}
+use mathlib.Core.Bool.{Bool, true, false, cond, _&&_, _||_, or-true, or-false}
 use mathlib.Core.Logic.{_↔_, ⊎-elim}
 use mathlib.Core.Option.{Option, none, some}
 use mathlib.Core.List.{List, [], _∷_, _++_}
-use Prim.Native.Nat.{ℕ, zero, suc, _+_, _-_, _≤_, _<_}
+use Prim.Native.Nat.{ℕ, _+_, _-_, _≤_, _<_}
 use native.Mathlib.Omega.{arith}
 use borrow.Author.Tests.{eq-eqb, ne-eqb, eqb-true, eqb-false, ltb-true, ltb-false}
 use lib.Dec.{eqb, ltb, ltb→lt}
@@ -15,18 +15,21 @@ use lib.Ieee.{Float, ofBits, binary32}
 use Rattle.transform.specs.Kinds.{placesOf}
 use Rattle.transform.proofs.Chain.{left, right}
 use Rattle.transform.proofs.Laws.{at, side}
+use Rattle.transform.proofs.Numbered.{differs}
+use Rattle.transform.proofs.ZeroLaws.{of-zeros}
 use Rattle.slices.specs.Slices.{laidAt, closedAt}
 use Rattle.slices.proofs.Places.{laid-at, laid-before, laid-at-length, closed-length, closed-before, closed-behind, closed-end}
 use Rattle.short_arena.specs.declared.held.State.{State}
 use Rattle.short_arena.specs.declared.arena.Answer.{Answer}
 use Rattle.short_arena.specs.declared.arena.Answer.the-variants.{Done, Part, Lent, Held, Full, Gone}
-use Rattle.short_arena.specs.Held.{heldOf, stateOf, isHeld, single, sumOver, placesIn, startIn, without, allZero}
+use Rattle.short_arena.specs.Held.{heldOf, stateOf, isHeld, single, sumOver, placesIn, startIn, without}
+use Rattle.transform.specs.Zeros.{allZero}
 use Rattle.short_arena.specs.Short.{shortReply, lentRight, addAnswer, addState, addArena, findAnswer, dropAnswer, dropState, dropArena, leaves, partIn, partWith, shown}
 use Rattle.short_arena.specs.Calls.{AddRight, Call, adding, finding, dropping, Noted, note, Left, call, calls, begun, withDone, seen, isNoted, sumBelow, notedPlaces}
 use Rattle.short_arena.proofs.Lending.{is-right, right-is, no-kind}
 use Rattle.short_arena.proofs.Sums.{sum-is, same-below, few}
 use Rattle.short_arena.proofs.Answers.{start-fits, add-held, add-full, find-says, shows-part, add-says, add-lays}
-use Rattle.short_arena.proofs.Order.{or-true, or-false, held-small, held-snoc, single-snoc, places-snoc, start-last, start-before, gone, held-other, single-without, places-without, either}
+use Rattle.short_arena.proofs.Order.{held-small, held-snoc, single-snoc, places-snoc, start-last, start-before, gone, held-other, single-without, places-without, either}
 
 -- the part of a kind that is held
 abbrev heldPart : List Float → List ℕ → ℕ → Option (List Float)
@@ -56,11 +59,6 @@ record Good (d : Left) : Type 0 where
   pub small : length (d .arena) ≤ 394752
   pub told : (k : ℕ) → d .noted k ≡ heldPart (d .arena) (heldOf (d .state)) k
 
-zeros-zero : (n : ℕ) → allZero (replicate n 0) ≡ true
-unfolding allZero
-zeros-zero zero = refl
-zeros-zero (suc n) = zeros-zero n
-
 abbrev desk : List Float → List ℕ → Noted → Left
 desk a ks w = record { arena = a; state = stateOf ks; noted = w }
 
@@ -69,7 +67,7 @@ good-of a ks w e r s t =
     let h : heldOf (stateOf ks) ≡ ks = take-append-seam ks (replicate (17 - length ks) 0) in
     record {
       count = few ks e;
-      behind = ap allZero (drop-append-seam ks (replicate (17 - length ks) 0)) ∙ zeros-zero (17 - length ks);
+      behind = ap allZero (drop-append-seam ks (replicate (17 - length ks) 0)) ∙ of-zeros (17 - length ks);
       once = ap single h ∙ e;
       room = subst (λ (l : List ℕ). placesIn l ≤ length a) (sym h) r;
       small = s;
@@ -292,10 +290,6 @@ pub places-in-use : (a : List Float) (cs : List Call) → length a ≤ 394752 �
 places-in-use a cs h = places-noted (calls cs (begun a)) (after-good a cs h)
 
 -- ---- each refusal, exactly when
--- two replies with two numbers
-apart : (x y : ℕ) (l m : List ℕ) → eqb x y ≡ false → x ∷ l ≡ y ∷ m → ⊥
-apart x y l m e f = eqb-false x y e (ap (λ (r : List ℕ). getD r 0 0) f)
-
 module _ (n : ℕ) (s : State) (k : ℕ) where
   module _ (m : ℕ) where
     -- whether each test passes, and what they say together
@@ -316,9 +310,9 @@ module _ (n : ℕ) (s : State) (k : ℕ) where
         go : (x y z : Bool) → (eqb m (placesOf k) && lentRight n s k) ≡ x → isHeld (heldOf s) k ≡ y → ltb (n - placesIn (heldOf s)) (placesOf k) ≡ z
             → shortReply (addAnswer n s k m) ≡ 17 ∷ [] → AddRight n s k m × (isHeld (heldOf s) k ≡ true)
         go true true z p q r e = (passes p, q)
-        go true false true p q r e = absurd (apart 13 17 [] [] refl (sym (ap shortReply (tests true false true p q r)) ∙ e))
-        go true false false p q r e = absurd (apart 0 17 _ [] refl (sym (ap shortReply (tests true false false p q r)) ∙ e))
-        go false y z p q r e = absurd (apart 1 17 [] [] refl (sym (ap shortReply (tests false y z p q r)) ∙ e))
+        go true false true p q r e = absurd (differs 13 17 [] [] refl (sym (ap shortReply (tests true false true p q r)) ∙ e))
+        go true false false p q r e = absurd (differs 0 17 _ [] refl (sym (ap shortReply (tests true false false p q r)) ∙ e))
+        go false y z p q r e = absurd (differs 1 17 [] [] refl (sym (ap shortReply (tests false y z p q r)) ∙ e))
 
     pub full-exactly : (shortReply (addAnswer n s k m) ≡ 13 ∷ []) ↔ (AddRight n s k m × (isHeld (heldOf s) k ≡ false) × (n - placesIn (heldOf s) < placesOf k))
     full-exactly = (
@@ -328,10 +322,10 @@ module _ (n : ℕ) (s : State) (k : ℕ) where
       where
         go : (x y z : Bool) → (eqb m (placesOf k) && lentRight n s k) ≡ x → isHeld (heldOf s) k ≡ y → ltb (n - placesIn (heldOf s)) (placesOf k) ≡ z
             → shortReply (addAnswer n s k m) ≡ 13 ∷ [] → AddRight n s k m × (isHeld (heldOf s) k ≡ false) × (n - placesIn (heldOf s) < placesOf k)
-        go true true z p q r e = absurd (apart 17 13 [] [] refl (sym (ap shortReply (tests true true z p q r)) ∙ e))
+        go true true z p q r e = absurd (differs 17 13 [] [] refl (sym (ap shortReply (tests true true z p q r)) ∙ e))
         go true false true p q r e = (passes p, q, ltb-true (n - placesIn (heldOf s)) (placesOf k) r)
-        go true false false p q r e = absurd (apart 0 13 _ [] refl (sym (ap shortReply (tests true false false p q r)) ∙ e))
-        go false y z p q r e = absurd (apart 1 13 [] [] refl (sym (ap shortReply (tests false y z p q r)) ∙ e))
+        go true false false p q r e = absurd (differs 0 13 _ [] refl (sym (ap shortReply (tests true false false p q r)) ∙ e))
+        go false y z p q r e = absurd (differs 1 13 [] [] refl (sym (ap shortReply (tests false y z p q r)) ∙ e))
 
   -- looking up, and dropping, which refuses as looking up does
   pub gone-exactly : (shortReply (findAnswer n s k) ≡ 18 ∷ []) ↔ ((lentRight n s k ≡ true) × (isHeld (heldOf s) k ≡ false))
@@ -340,18 +334,18 @@ module _ (n : ℕ) (s : State) (k : ℕ) where
     where
       go : (x y : Bool) → lentRight n s k ≡ x → isHeld (heldOf s) k ≡ y → shortReply (cond x (cond y (Part (startIn (heldOf s) k) (placesOf k)) Gone) Lent) ≡ 18 ∷ []
           → (lentRight n s k ≡ true) × (isHeld (heldOf s) k ≡ false)
-      go true true p q e = absurd (apart 0 18 (startIn (heldOf s) k ∷ placesOf k ∷ []) [] refl e)
+      go true true p q e = absurd (differs 0 18 (startIn (heldOf s) k ∷ placesOf k ∷ []) [] refl e)
       go true false p q e = (p, q)
-      go false y p q e = absurd (apart 1 18 [] [] refl e)
+      go false y p q e = absurd (differs 1 18 [] [] refl e)
 
   pub drop-gone-exactly : (shortReply (dropAnswer n s k) ≡ 18 ∷ []) ↔ ((lentRight n s k ≡ true) × (isHeld (heldOf s) k ≡ false))
   unfolding dropAnswer
   drop-gone-exactly = (go (lentRight n s k) (isHeld (heldOf s) k) refl refl, λ (e, h). rw (e, h))
     where
       go : (x y : Bool) → lentRight n s k ≡ x → isHeld (heldOf s) k ≡ y → shortReply (cond x (cond y Done Gone) Lent) ≡ 18 ∷ [] → (lentRight n s k ≡ true) × (isHeld (heldOf s) k ≡ false)
-      go true true p q e = absurd (apart 0 18 [] [] refl e)
+      go true true p q e = absurd (differs 0 18 [] [] refl e)
       go true false p q e = (p, q)
-      go false y p q e = absurd (apart 1 18 [] [] refl e)
+      go false y p q e = absurd (differs 1 18 [] [] refl e)
 
 -- ---- the same after any list of calls, by what was added and not dropped since
 module _ (a : List Float) (cs : List Call) (h : length a ≤ 394752) (k : ℕ) (l : k < 17) where
@@ -388,10 +382,10 @@ module _ (a : List Float) (cs : List Call) (h : length a ≤ 394752) (k : ℕ) (
 part-said : (r : Answer) (f p : ℕ) → shortReply r ≡ 0 ∷ f ∷ p ∷ [] → Part f p ≡ r
 part-said Done f p e = absurd (omega (arith, ap length e))
 part-said (Part x y) f p e = sym (ap (λ (l : List ℕ). Part (getD l 1 0) (getD l 2 0)) e)
-part-said Lent f p e = absurd (apart 1 0 [] (f ∷ p ∷ []) refl e)
-part-said Held f p e = absurd (apart 17 0 [] (f ∷ p ∷ []) refl e)
-part-said Full f p e = absurd (apart 13 0 [] (f ∷ p ∷ []) refl e)
-part-said Gone f p e = absurd (apart 18 0 [] (f ∷ p ∷ []) refl e)
+part-said Lent f p e = absurd (differs 1 0 [] (f ∷ p ∷ []) refl e)
+part-said Held f p e = absurd (differs 17 0 [] (f ∷ p ∷ []) refl e)
+part-said Full f p e = absurd (differs 13 0 [] (f ∷ p ∷ []) refl e)
+part-said Gone f p e = absurd (differs 18 0 [] (f ∷ p ∷ []) refl e)
 
 -- looking up: the part there is the one that is shown
 pub found-there : (a : List Float) (s : State) (k f p : ℕ) → shortReply (findAnswer (length a) s k) ≡ 0 ∷ f ∷ p ∷ [] → take p (drop f a) ≡ shown a s k
@@ -426,8 +420,8 @@ freed-zero a s k = go (lentRight (length a) s k) (isHeld (heldOf s) k) refl refl
         let i : placesIn (without ks k) ≡ placesIn ks - placesOf k = omega arith in
         ap (λ (j : ℕ). drop j (closedAt (ofBits binary32 0) (startIn ks k) (placesOf k) (placesIn ks) a)) (ap placesIn (take-append-seam (without ks k) (replicate (17 - length (without ks k)) 0)) ∙ i)
         ∙ closed-end a (ofBits binary32 0) (startIn ks k) (placesOf k) (placesIn ks) (start-fits ks k q) (r .room)
-    go true false p q e = absurd (apart 18 0 [] [] refl e)
-    go false y p q e = absurd (apart 1 0 [] [] refl e)
+    go true false p q e = absurd (differs 18 0 [] [] refl e)
+    go false y p q e = absurd (differs 1 0 [] [] refl e)
 
 -- ---- an arena of no places: every kind is FULL, and none is held
 some-places : (k : ℕ) → k < 17 → 0 < placesOf k

@@ -4,17 +4,11 @@ use mathlib.Core.Bool.{Bool, true, false, not, _&&_}
 use mathlib.Core.List.{List, _∷_}
 use Prim.Native.Nat.{ℕ, _+_, _≤_, _<_}
 use native.Mathlib.Numerals.{add-one}
-use native.Mathlib.Omega.{arith}
 use borrow.Author.Tests.{eq-eqb, ne-eqb, lt-ltb, le-ltb}
 use lib.ListN.{length, getD, drop, drop-of-length-le}
 use lib.Seq.{drop-cons}
 use Rattle.transform.specs.Kinds.{placesOf}
-use Rattle.transform.proofs.Laws.{area-le}
-use Rattle.short_arena.specs.Held.{isHeld, single, sumOver, startIn, allZero}
-
-pub places-le : (k : ℕ) → placesOf k ≤ 196608
-unfolding placesOf
-places-le k = let h = area-le k in omega arith
+use Rattle.short_arena.specs.Held.{isHeld, single, sumOver, startIn}
 
 module _ (ks : List ℕ) (i : ℕ) where
   module _ (h : i < length ks) where
@@ -49,14 +43,6 @@ module _ (ks : List ℕ) (i : ℕ) where
     unfolding startIn
     start-next k e = rw (more, ne-eqb (getD ks i 0) k e)
 
-    pub zero-not : (getD ks i 0 ≡ 0 → ⊥) → false ≡ allZero (drop i ks)
-    unfolding allZero
-    zero-not e = rw (more, ne-eqb (getD ks i 0) 0 e)
-
-    pub zero-next : getD ks i 0 ≡ 0 → allZero (drop i ks) ≡ allZero (drop (i + 1) ks)
-    unfolding allZero
-    zero-next e = rw (more, eq-eqb (getD ks i 0) 0 e)
-
   module _ (h : length ks ≤ i) where
     pub held-none : (k : ℕ) → false ≡ isHeld (drop i ks) k
     unfolding isHeld
@@ -73,7 +59,3 @@ module _ (ks : List ℕ) (i : ℕ) where
     pub start-none : (k : ℕ) → startIn (drop i ks) k ≡ 0
     unfolding startIn
     start-none k = rw (drop-of-length-le ks h)
-
-    pub zero-none : true ≡ allZero (drop i ks)
-    unfolding allZero
-    zero-none = rw (drop-of-length-le ks h)

@@ -43,8 +43,3 @@ startIn (j ∷ ks) k = cond (eqb j k) 0 (placesOf j + startIn ks k)
 unfoldable pub without : List ℕ → ℕ → List ℕ
 without [] k = []
 without (j ∷ ks) k = cond (eqb j k) (without ks k) (j ∷ without ks k)
-
--- whether all are 0
-unfoldable pub allZero : List ℕ → Bool
-allZero [] = true
-allZero (x ∷ l) = eqb x 0 && allZero l

@@ -10,7 +10,8 @@ use Rattle.slices.specs.Slices.{laidAt, closedAt}
 use Rattle.short_arena.specs.declared.held.State.{State}
 use Rattle.short_arena.specs.declared.arena.Answer.{Answer}
 use Rattle.short_arena.specs.declared.arena.Answer.the-variants.{Done, Part, Lent, Held, Full, Gone}
-use Rattle.short_arena.specs.Held.{heldOf, stateOf, isHeld, single, placesIn, startIn, without, allZero}
+use Rattle.short_arena.specs.Held.{heldOf, stateOf, isHeld, single, placesIn, startIn, without}
+use Rattle.transform.specs.Zeros.{allZero}
 
 -- the number of a reply, and its values
 abbrev pub shortReply : Answer → List ℕ

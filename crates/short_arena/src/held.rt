@@ -5,7 +5,8 @@ ghost use mathlib.Core.Bool.{true};
 ghost use mathlib.Core.List.{[], _∷_, _++_};
 ghost use Prim.Native.Nat.{_≤_, _<_};
 ghost use lib.ListN.{length, drop};
-ghost use Rattle.short_arena.specs.Held.{heldOf, stateOf, isHeld, single, placesIn, startIn, without, allZero};
+ghost use Rattle.short_arena.specs.Held.{heldOf, stateOf, isHeld, single, placesIn, startIn, without};
+ghost use Rattle.transform.specs.Zeros.{allZero};
 ghost use Rattle.short_arena.specs.Short.{lentRight};
 
 // How many kinds are held, and which, in the order added; 0 behind them.

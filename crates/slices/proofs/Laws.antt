@@ -1,16 +1,18 @@
 -- The two loops, turn by turn: each is a copy (`paste`) of what it writes, from a place on. Assumes nothing.
-use mathlib.Core.Path.{_≡_, refl, sym, ap, _∙_}
-use mathlib.Core.Bool.{Bool, true, false, cond, _&&_}
+use mathlib.Core.Path.{_≡_, sym, ap, _∙_}
+use mathlib.Core.Bool.{Bool, cond, _&&_, and-false}
 use mathlib.Core.List.{List, _++_, append-assoc}
 use Prim.Native.Nat.{ℕ, suc, _+_, _-_, _≤_, _<_}
 use native.Mathlib.Nat.{le-refl}
 use native.Mathlib.Omega.{arith}
 use borrow.Author.Tests.{le-leb, lt-leb}
 use lib.Dec.{leb}
-use lib.ListN.{length, getD, take, drop, set, replicate, length-append, length-drop, length-replicate, getD-replicate, List·getD-append}
-use lib.Seq.{paste, paste-suc, drop-paste, take-all, length-take-le, getD-take, getD-drop, getD-append-add}
+use lib.ListN.{length, getD, take, drop, set, replicate, getD-replicate, List·getD-append}
+use lib.Seq.{paste, paste-suc, drop-paste, take-all, getD-take, getD-drop, getD-append-add}
 use lib.Ieee.{Float, ofBits, binary32}
-use Rattle.slices.specs.Slices.{laidAt, closedAt, putLeaves, closeLeaves}
+use Rattle.transform.specs.Kinds.{spliced}
+use Rattle.slices.specs.Slices.{laidAt, movedDown, closedAt, putLeaves, closeLeaves}
+use Rattle.slices.proofs.Places.{down-length, moved-length}
 
 -- ---- weights laid in
 module _ (l : List Float) (at : ℕ) (ws : List Float) where
@@ -31,17 +33,14 @@ module _ (l : List Float) (at : ℕ) (ws : List Float) where
 
 -- ---- a stretch closed up
 module _ (l : List Float) (at n end : ℕ) where
-  -- what is written from `at` on: those that move down, and zeros
+  -- what is written from `at` on
   abbrev pub moved : List Float
-  moved = take (end - (at + n)) (drop (at + n) l) ++ replicate n (ofBits binary32 0)
+  moved = movedDown (ofBits binary32 0) at n end l
 
   pub close-beyond : length l < end → l ≡ closeLeaves l at n end
   unfolding closeLeaves
-  close-beyond h = sym (ap (λ (b : Bool). cond b (closedAt (ofBits binary32 0) at n end l) l) (none (leb (at + n) end)))
-    where
-      none : (b : Bool) → (b && leb end (length l)) ≡ false
-      none true = lt-leb end (length l) h
-      none false = refl
+  close-beyond h =
+      sym (ap (λ (b : Bool). cond b (closedAt (ofBits binary32 0) at n end l) l) (ap (λ (b : Bool). leb (at + n) end && b) (lt-leb end (length l) h) ∙ and-false (leb (at + n) end)))
 
   pub close-none : end < at + n → l ≡ closeLeaves l at n end
   unfolding closeLeaves
@@ -54,23 +53,13 @@ module _ (l : List Float) (at n end : ℕ) where
         ap (λ (b : Bool). cond (b && leb end (length l)) (closedAt (ofBits binary32 0) at n end l) l) (le-leb (at + n) end h)
         ∙ ap (λ (b : Bool). cond b (closedAt (ofBits binary32 0) at n end l) l) (le-leb end (length l) g)
 
-    down-length : length (take (end - (at + n)) (drop (at + n) l)) ≡ end - (at + n)
-    down-length = length-take-le (end - (at + n)) (drop (at + n) l) (let d = length-drop (at + n) l in omega arith)
-
-    moved-length : length moved ≡ end - at
-    moved-length =
-        let a = length-append (take (end - (at + n)) (drop (at + n) l)) (replicate n (ofBits binary32 0)) in
-        let r = length-replicate n (ofBits binary32 0) in
-        let d = down-length in
-        omega arith
-
     -- a turn at place i, with what it reads and what it writes
     module _ (x : List Float) (i : ℕ) (z : Float) (a : at ≤ i) (b : i < end) (e : x ≡ paste l at moved (i - at)) where
       stored : (v : Float) → v ≡ getD moved (i - at) z → set x i v ≡ paste l at moved (i + 1 - at)
       stored v f =
           let o : i ≡ at + (i - at) = omega arith in
           let s : suc (i - at) ≡ i + 1 - at = omega arith in
-          let m = moved-length in
+          let m = moved-length l (ofBits binary32 0) at n end h g in
           ap (λ (y : List Float). set y i v) e
           ∙ ap (λ (j : ℕ). set (paste l at moved (i - at)) j v) o
           ∙ ap (set (paste l at moved (i - at)) (at + (i - at))) f
@@ -81,7 +70,7 @@ module _ (l : List Float) (at n end : ℕ) where
       further : getD x (i + n) z ≡ getD l (i + n) z
       further =
           let o : at + (i - at) ≡ i = omega arith in
-          let m = moved-length in
+          let m = moved-length l (ofBits binary32 0) at n end h g in
           ap (λ (y : List Float). getD y (i + n) z) e
           ∙ sym (getD-drop i (paste l at moved (i - at)) n z)
           ∙ ap (λ (j : ℕ). getD (drop j (paste l at moved (i - at))) n z) (sym o)
@@ -92,7 +81,7 @@ module _ (l : List Float) (at n end : ℕ) where
       pub moves-down : i < end - n → set x i (getD x (i + n) z) ≡ paste l at moved (i + 1 - at)
       moves-down c =
           let o : at + n + (i - at) ≡ i + n = omega arith in
-          let d = down-length in
+          let d = down-length l (ofBits binary32 0) at n end h g in
           stored (getD x (i + n) z)
           (further
           ∙ sym (List·getD-append (take (end - (at + n)) (drop (at + n) l)) (replicate n (ofBits binary32 0)) z (i - at) (omega arith)
@@ -103,7 +92,7 @@ module _ (l : List Float) (at n end : ℕ) where
       pub comes-free : end - n ≤ i → set x i (ofBits binary32 0) ≡ paste l at moved (i + 1 - at)
       comes-free c =
           let down = take (end - (at + n)) (drop (at + n) l) in
-          let d = down-length in
+          let d = down-length l (ofBits binary32 0) at n end h g in
           let o : i - at ≡ length down + (i - (end - n)) = omega arith in
           stored (ofBits binary32 0)
           (sym (ap (λ (j : ℕ). getD moved j z) o
@@ -113,9 +102,7 @@ module _ (l : List Float) (at n end : ℕ) where
     pub close-all : paste l at moved (end - at) ≡ closeLeaves l at n end
     close-all =
         let o : at + (end - at) ≡ end = omega arith in
-        let down = take (end - (at + n)) (drop (at + n) l) in
         append-assoc (take at l) (take (end - at) moved) (drop (at + (end - at)) l)
-        ∙ ap (λ (x : List Float). take at l ++ (x ++ drop (at + (end - at)) l)) (take-all (end - at) moved (let m = moved-length in omega arith))
-        ∙ ap (λ (j : ℕ). take at l ++ (moved ++ drop j l)) o
-        ∙ ap (λ (x : List Float). take at l ++ x) (append-assoc down (replicate n (ofBits binary32 0)) (drop end l))
+        ∙ ap (λ (x : List Float). take at l ++ (x ++ drop (at + (end - at)) l)) (take-all (end - at) moved (let m = moved-length l (ofBits binary32 0) at n end h g in omega arith))
+        ∙ ap (λ (j : ℕ). spliced at j moved l) o
         ∙ sym close-fits

@@ -1,29 +1,23 @@
 -- What stands where after weights were laid in, and after a stretch was closed up. Assumes nothing.
 use mathlib.Core.Path.{_≡_, refl, sym, ap, _∙_}
-use mathlib.Core.List.{List, [], _∷_, _++_, append-assoc}
-use Prim.Native.Nat.{ℕ, zero, suc, _+_, _-_, _≤_}
-use native.Mathlib.Nat.{sub-zero, zero-sub, suc-sub-suc}
+use mathlib.Core.List.{List, _++_, append-assoc}
+use Prim.Native.Nat.{ℕ, _+_, _-_, _≤_}
 use native.Mathlib.Omega.{arith}
-use lib.ListN.{length, take, drop, replicate, length-append, length-drop, length-replicate}
-use lib.Seq.{length-take-le, take-nil, take-take, take-append-le, drop-append-le, drop-append-add, drop-drop, take-at, drop-at}
-use Rattle.slices.specs.Slices.{laidAt, closedAt}
+use lib.ListN.{length, take, drop, replicate, length-append, length-drop, length-replicate, take-append-drop}
+use lib.Seq.{length-take-le, take-append-le, drop-append-le, drop-append-add, drop-drop, take-at, drop-at}
+use Rattle.transform.proofs.PartLaws.{spliced-length}
+use Rattle.slices.specs.Slices.{laidAt, movedDown, closedAt}
 
 module _ {A : Type 0} where
-  drop-take : (n m : ℕ) (l : List A) → drop n (take m l) ≡ take (m - n) (drop n l)
-  drop-take zero m l = ap (λ (i : ℕ). take i l) (sym (sub-zero m))
-  drop-take (suc n) zero l = sym (ap (λ (i : ℕ). take i (drop (suc n) l)) (zero-sub (suc n)))
-  drop-take (suc n) (suc m) [] = sym (take-nil (suc m - suc n))
-  drop-take (suc n) (suc m) (x ∷ l) = drop-take n m l ∙ ap (λ (i : ℕ). take i (drop n l)) (sym (suc-sub-suc m n))
-
   -- a part of the first u is what it was, whatever stands behind them
   part-within : (l x : List A) (s p u : ℕ) → s + p ≤ u → u ≤ length l → take p (drop s (take u l ++ x)) ≡ take p (drop s l)
-  part-within l x s p u h g =
-      let e = length-take-le u l g in
-      let d = length-drop s (take u l) in
-      ap (take p) (drop-append-le s (take u l) x (omega arith))
-      ∙ take-append-le p (drop s (take u l)) x (omega arith)
-      ∙ ap (take p) (drop-take s u l)
-      ∙ take-take p (u - s) (drop s l) (omega arith)
+  part-within l x s p u h g = before x ∙ sym (before (drop u l)) ∙ ap (λ (y : List A). take p (drop s y)) (take-append-drop u l)
+    where
+      before : (y : List A) → take p (drop s (take u l ++ y)) ≡ take p (drop s (take u l))
+      before y =
+          let e = length-take-le u l g in
+          let d = length-drop s (take u l) in
+          ap (take p) (drop-append-le s (take u l) y (omega arith)) ∙ take-append-le p (drop s (take u l)) y (omega arith)
 
   -- ---- weights laid in at u
   module _ (l ws : List A) (u : ℕ) where
@@ -36,33 +30,22 @@ module _ {A : Type 0} where
     laid-before s p h g = part-within l (ws ++ drop (u + length ws) l) s p u h g
 
     pub laid-at-length : u + length ws ≤ length l → length (laidAt u ws l) ≡ length l
-    laid-at-length h =
-        let a = length-append (take u l) (ws ++ drop (u + length ws) l) in
-        let b = length-append ws (drop (u + length ws) l) in
-        let d = length-drop (u + length ws) l in
-        let e = length-take-le u l (omega arith) in
-        omega arith
+    laid-at-length h = spliced-length u (u + length ws) ws l refl h
 
   -- ---- n places from f on closed up, in the first u
   module _ (l : List A) (z : A) (f n u : ℕ) (h : f + n ≤ u) (g : u ≤ length l) where
-    down : List A
-    down = take (u - (f + n)) (drop (f + n) l)
-
-    down-length : length down ≡ u - (f + n)
-    unfolding down
+    pub down-length : length (take (u - (f + n)) (drop (f + n) l)) ≡ u - (f + n)
     down-length = length-take-le (u - (f + n)) (drop (f + n) l) (let d = length-drop (f + n) l in omega arith)
 
-    pub closed-length : length (closedAt z f n u l) ≡ length l
-    unfolding down
-    closed-length =
-        let a = length-append (take f l) (down ++ (replicate n z ++ drop u l)) in
-        let b = length-append down (replicate n z ++ drop u l) in
-        let c = length-append (replicate n z) (drop u l) in
-        let d = length-drop u l in
-        let j = down-length in
-        let e = length-take-le f l (omega arith) in
+    pub moved-length : length (movedDown z f n u l) ≡ u - f
+    moved-length =
+        let a = length-append (take (u - (f + n)) (drop (f + n) l)) (replicate n z) in
         let r = length-replicate n z in
+        let d = down-length in
         omega arith
+
+    pub closed-length : length (closedAt z f n u l) ≡ length l
+    closed-length = spliced-length f u (movedDown z f n u l) l (let m = moved-length in omega arith) g
 
     -- what ends before them stays
     pub closed-before : (s p : ℕ) → s + p ≤ f → take p (drop s (closedAt z f n u l)) ≡ take p (drop s l)
@@ -74,17 +57,20 @@ module _ {A : Type 0} where
         let o : t ≡ f + (t - f) = omega arith in
         let y : f + n + (t - f) ≡ s = omega arith in
         let d = length-drop (f + n) l in
+        let down = take (u - (f + n)) (drop (f + n) l) in
         ap (λ (m : ℕ). take p (drop m (closedAt z f n u l))) (o ∙ ap (λ (m : ℕ). m + (t - f)) (sym (length-take-le f l (omega arith))))
-        ∙ ap (take p) (drop-append-add (take f l) (take (u - (f + n)) (drop (f + n) l) ++ (replicate n z ++ drop u l)) (t - f))
+        ∙ ap (take p) (drop-append-add (take f l) (movedDown z f n u l ++ drop u l) (t - f))
+        ∙ ap (λ (r : List A). take p (drop (t - f) r)) (append-assoc down (replicate n z) (drop u l))
         ∙ part-within (drop (f + n) l) (replicate n z ++ drop u l) (t - f) p (u - (f + n)) (omega arith) (omega arith)
         ∙ ap (take p) (drop-drop (t - f) (f + n) l ∙ ap (λ (m : ℕ). drop m l) y)
 
     -- the places that come free have z, and those behind are as they were
     pub closed-end : drop (u - n) (closedAt z f n u l) ≡ replicate n z ++ drop u l
-    unfolding down
     closed-end =
+        let down = take (u - (f + n)) (drop (f + n) l) in
         let j = down-length in
         let e = length-take-le f l (omega arith) in
         let a = length-append (take f l) down in
-        ap (drop (u - n)) (sym (append-assoc (take f l) down (replicate n z ++ drop u l)))
+        ap (λ (r : List A). drop (u - n) (take f l ++ r)) (append-assoc down (replicate n z) (drop u l))
+        ∙ ap (drop (u - n)) (sym (append-assoc (take f l) down (replicate n z ++ drop u l)))
         ∙ drop-at (take f l ++ down) (replicate n z ++ drop u l) (u - n) (omega arith)

@@ -1,14 +1,14 @@
 -- The answers, test by test, and what a replacement leaves. Assumes nothing.
 use mathlib.Core.Path.{_≡_, ap, _∙_}
 use mathlib.Core.Bool.{true, false, _&&_}
-use mathlib.Core.List.{List, _++_}
+use mathlib.Core.List.{List}
 use Prim.Native.Nat.{ℕ, _+_, _-_, _%_, _^_, _≤_, _<_}
 use native.Mathlib.Omega.{arith}
 use borrow.Author.Tests.{eq-eqb, ne-eqb, le-leb, lt-leb, lt-ltb, le-ltb, eqb-true}
 use lib.Dec.{eqb, ltb}
 use lib.ListN.{length, take, drop}
 use lib.Ieee.{Float}
-use Rattle.transform.specs.Kinds.{placesOf, startOf, part, laid}
+use Rattle.transform.specs.Kinds.{placesOf, startOf, part, spliced, laid}
 use Rattle.transform.proofs.Chain.{here, next, left, right}
 use Rattle.transform.proofs.Laws.{end-le}
 use Rattle.transform.proofs.PartLaws.{cut, part-length}
@@ -109,5 +109,5 @@ module _ (a : List Float) (k : ℕ) (ws : List Float) where
       f
       ∙ put-fits a st ws (omega (arith, p .ends, p .arena))
       ∙ ap (λ (n : ℕ). laidAt n ws a) (p .start)
-      ∙ ap (λ (n : ℕ). take (startOf k) a ++ (ws ++ drop (startOf k + n) a)) (p .weights)
+      ∙ ap (λ (n : ℕ). spliced (startOf k) (startOf k + n) ws a) (p .weights)
       ∙ arena-laid e

@@ -5,7 +5,7 @@ use Prim.Native.Nat.{ℕ, _+_, _-_, _≤_}
 use native.Mathlib.Omega.{arith}
 use lib.ListN.{length, take, drop, length-append, length-drop, take-append-drop}
 use lib.Seq.{length-take-le, drop-drop}
-use Rattle.transform.specs.Kinds.{placesOf, startOf, part, laid}
+use Rattle.transform.specs.Kinds.{placesOf, startOf, part, spliced, laid}
 use Rattle.transform.proofs.Laws.{end-le}
 
 pub part-length : {A : Type 0} (k : ℕ) (l : List A) → length l ≡ 394752 → length (part k l) ≡ placesOf k
@@ -35,11 +35,14 @@ laid-own {A} k l =
 pub before-length : {A : Type 0} (k : ℕ) (l : List A) → length l ≡ 394752 → length (take (startOf k) l) ≡ startOf k
 before-length k l e = length-take-le (startOf k) l (let h = end-le k in omega arith)
 
-pub laid-length : {A : Type 0} (k : ℕ) (ws l : List A) → length l ≡ 394752 → length ws ≡ placesOf k → length (laid k ws l) ≡ 394752
-laid-length k ws l e f =
-    let h = end-le k in
-    let a = length-append (take (startOf k) l) (ws ++ drop (startOf k + placesOf k) l) in
-    let b = length-append ws (drop (startOf k + placesOf k) l) in
-    let c = length-drop (startOf k + placesOf k) l in
-    let d = before-length k l e in
+-- as many put in as were there
+pub spliced-length : {A : Type 0} (at end : ℕ) (ws l : List A) → at + length ws ≡ end → end ≤ length l → length (spliced at end ws l) ≡ length l
+spliced-length at end ws l e h =
+    let a = length-append (take at l) (ws ++ drop end l) in
+    let b = length-append ws (drop end l) in
+    let c = length-drop end l in
+    let d = length-take-le at l (omega arith) in
     omega arith
+
+pub laid-length : {A : Type 0} (k : ℕ) (ws l : List A) → length l ≡ 394752 → length ws ≡ placesOf k → length (laid k ws l) ≡ 394752
+laid-length k ws l e f = spliced-length (startOf k) (startOf k + placesOf k) ws l (ap (λ (n : ℕ). startOf k + n) f) (subst (λ (n : ℕ). startOf k + placesOf k ≤ n) (sym e) (end-le k)) ∙ e

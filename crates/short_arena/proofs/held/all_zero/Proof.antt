@@ -2,9 +2,10 @@
 use mathlib.Core.Path.{_≡_, refl, sym, _∙_}
 use Prim.Native.Nat.{_-_}
 use native.Mathlib.Omega.{arith}
-use lib.ListN.{length, drop}
-use Rattle.short_arena.specs.Held.{allZero}
-use Rattle.short_arena.proofs.Turns.{zero-not, zero-next, zero-none}
+use borrow.Author.Tests.{eq-eqb, ne-eqb}
+use lib.ListN.{length, getD, drop}
+use Rattle.transform.specs.Zeros.{allZero}
+use Rattle.transform.proofs.ZeroLaws.{zero-stop, zero-go, zero-none}
 use Rattle.short_arena.proofs.held.all_zero.Statement.{statement}
 use Rattle.short_arena.proofs.held.all_zero.Tie as tie
 
@@ -27,7 +28,7 @@ returns : tie.Need-returns Inv-loop μ-loop
 returns c =
     let a = c .before .before .before .before .args in
     let i = c .before .before .before .loop .i in
-    zero-not (a .l .now) i (c .before .before .loop-test .taken) (c .if1 .taken) ∙ c .before .before .before .loop .inv
+    sym (zero-stop (a .l .now) i (c .before .before .loop-test .taken) (ne-eqb (getD (a .l .now) i 0) 0 (c .if1 .taken))) ∙ c .before .before .before .loop .inv
 
 add-i : tie.Need-add-i Inv-loop μ-loop
 add-i c = omega arith
@@ -39,12 +40,12 @@ loop-again : tie.Need-loop-again Inv-loop μ-loop
 loop-again c =
     let a = c .before .before .before .before .args in
     let i = c .before .before .before .loop .i in
-    sym (zero-next (a .l .now) i (c .before .before .loop-test .taken) (c .if1 .left)) ∙ c .before .before .before .loop .inv
+    zero-go (a .l .now) i (c .before .before .loop-test .taken) (eq-eqb (getD (a .l .now) i 0) 0 (c .if1 .left)) ∙ c .before .before .before .loop .inv
 
 returns-2 : tie.Need-returns-2 Inv-loop μ-loop
 returns-2 c =
     let a = c .before .before .args in
-    zero-none (a .l .now) (c .before .loop .i) (c .loop-test .left) ∙ c .before .loop .inv
+    sym (zero-none (a .l .now) (c .before .loop .i) (c .loop-test .left)) ∙ c .before .loop .inv
 
 pub all-zero-spec : {M : Type 1} → statement M
 all-zero-spec =

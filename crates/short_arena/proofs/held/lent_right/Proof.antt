@@ -7,7 +7,8 @@ use borrow.Author.Needs.{needs}
 use lib.Dec.{leb}
 use lib.ListN.{length, drop}
 use Rattle.transform.proofs.Chain.{here, next}
-use Rattle.short_arena.specs.Held.{heldOf, single, placesIn, allZero}
+use Rattle.short_arena.specs.Held.{heldOf, single, placesIn}
+use Rattle.transform.specs.Zeros.{allZero}
 use Rattle.short_arena.specs.Short.{lentRight}
 use Rattle.short_arena.proofs.States.{rest-is}
 use Rattle.short_arena.proofs.Lending.{seventeen, held-count, no-kind, no-arena, no-count, by-kinds}

@@ -7,7 +7,8 @@ use borrow.Author.Needs.{needs}
 use lib.ListN.{length, getD, drop}
 use Rattle.transform.specs.Kinds.{placesOf}
 use Rattle.short_arena.specs.Held.{placesIn}
-use Rattle.short_arena.proofs.Turns.{places-le, sum-next, sum-none}
+use Rattle.transform.proofs.Laws.{places-le}
+use Rattle.short_arena.proofs.Turns.{sum-next, sum-none}
 use Rattle.short_arena.proofs.held.places_in.Statement.{statement}
 use Rattle.short_arena.proofs.held.places_in.Tie as tie
 

@@ -6,7 +6,8 @@ use native.Mathlib.Nat.{zero-add}
 use borrow.Author.Needs.{needs}
 use lib.ListN.{length, getD, drop}
 use Rattle.short_arena.specs.Held.{startIn}
-use Rattle.short_arena.proofs.Turns.{places-le, start-here, start-next, start-none}
+use Rattle.transform.proofs.Laws.{places-le}
+use Rattle.short_arena.proofs.Turns.{start-here, start-next, start-none}
 use Rattle.short_arena.proofs.held.start_in.Statement.{statement}
 use Rattle.short_arena.proofs.held.start_in.Tie as tie
 
