@@ -3,9 +3,9 @@ use Rattle.std.proofs.Common.{◌≡◌, ℕ, suc, ◌+◌, ◌-◌, ◌*◌, �
 use native.Mathlib.Nat.{mul-add-mod_self_right}
 use lib.Bits.{bit_or, or_shifted}
 use mir.Val.{bool_byte}
-use Rattle.bands.specs.Root.{wholeRoot}
+use Rattle.bands.specs.Root.{whole_root}
 use Rattle.bands.specs.Views.{Down}
-use Rattle.bands.proofs.Roots.{root_by, sq-suc, sq-dbl}
+use Rattle.bands.proofs.Roots.{root_by, sq_suc, sq_dbl}
 
 -- ---- a turn, where `two` comes down and l is left
 brought : (X P Q two l left : ℕ) → P ≡ 4 * Q → left ≡ two * Q + l → (4 * X + two) * P + 4 * l ≡ (X * P + left) * 4
@@ -19,34 +19,34 @@ go_same X X' P Q two l left k N p e x s =
     ∙ ap (λ (z : ℕ). (X * P + left) * z) (mul_comm 4 (4 ^ k) ∙ sym (pow-suc 4 k))
     ∙ s
 
-go-room : (r r' k L : ℕ) → r' ≤ 2 * r + 1 → (r + 1) * 2 ^ suc k ≤ L → (r' + 1) * 2 ^ k ≤ L
-go-room r r' k L h s =
+go_room : (r r' k L : ℕ) → r' ≤ 2 * r + 1 → (r + 1) * 2 ^ suc k ≤ L → (r' + 1) * 2 ^ k ≤ L
+go_room r r' k L h s =
     le_trans (mul-le-mul_right (2 ^ k) (up r r' h)) (le_trans (le_of_eq (mul_assoc (r + 1) 2 (2 ^ k) ∙ ap (λ (z : ℕ). (r + 1) * z) (mul_comm 2 (2 ^ k) ∙ sym (pow-suc 2 k)))) s)
   where
     up : (r r' : ℕ) → r' ≤ 2 * r + 1 → r' + 1 ≤ (r + 1) * 2
     up r r' h = omega arith
 
 module _ (P Q top N k rem root left two l : ℕ) (p : P ≡ 4 * Q) (e : left ≡ two * Q + l) (small : two < 4) (rest : l < Q) (d : Down P top N (suc k) rem root left) where
-  one-square : root * 4 < rem * 4 + two → rem * 4 + two - root * 4 - 1 + (root * 2 + 1) * (root * 2 + 1) ≡ 4 * (rem + root * root) + two
-  one-square h = omega (arith, sq-suc (root * 2), sq-dbl root)
+  one_square : root * 4 < rem * 4 + two → rem * 4 + two - root * 4 - 1 + (root * 2 + 1) * (root * 2 + 1) ≡ 4 * (rem + root * root) + two
+  one_square h = omega (arith, sq_suc (root * 2), sq_dbl root)
 
-  down-one : root * 4 < rem * 4 + two → Down P top N k (rem * 4 + two - root * 4 - 1) (root * 2 + 1) (4 * l)
-  down-one h = record {
-    same = go_same (rem + root * root) _ P Q two l left k (N * P) p e (one-square h) d.same;
+  down_one : root * 4 < rem * 4 + two → Down P top N k (rem * 4 + two - root * 4 - 1) (root * 2 + 1) (4 * l)
+  down_one h = record {
+    same = go_same (rem + root * root) _ P Q two l left k (N * P) p e (one_square h) d.same;
     fits = omega arith;
     less = omega (arith, d.less);
-    room = go-room root (root * 2 + 1) k (2 ^ top) (omega arith) d.room;
+    room = go_room root (root * 2 + 1) k (2 ^ top) (omega arith) d.room;
   }
 
-  zero-square : rem * 4 + two + root * 2 * (root * 2) ≡ 4 * (rem + root * root) + two
-  zero-square = omega (arith, sq-dbl root)
+  zero_square : rem * 4 + two + root * 2 * (root * 2) ≡ 4 * (rem + root * root) + two
+  zero_square = omega (arith, sq_dbl root)
 
-  down-zero : rem * 4 + two ≤ root * 4 → Down P top N k (rem * 4 + two) (root * 2) (4 * l)
-  down-zero h = record {
-    same = go_same (rem + root * root) _ P Q two l left k (N * P) p e zero-square d.same;
+  down_zero : rem * 4 + two ≤ root * 4 → Down P top N k (rem * 4 + two) (root * 2) (4 * l)
+  down_zero h = record {
+    same = go_same (rem + root * root) _ P Q two l left k (N * P) p e zero_square d.same;
     fits = omega arith;
     less = omega arith;
-    room = go-room root (root * 2) k (2 ^ top) (omega arith) d.room;
+    room = go_room root (root * 2) k (2 ^ top) (omega arith) d.room;
   }
 
 -- ---- none are to come: the root, and what is beyond its square
@@ -54,8 +54,8 @@ module _ (P top N rem root left : ℕ) (d : Down P top N 0 rem root left) where
   flat : (rem + root * root) * P + left ≡ N * P
   flat = sym (mul-one ((rem + root * root) * P + left)) ∙ d.same
 
-  pub down-sum : rem + root * root ≡ N
-  down-sum = le_antisymm (le_of_mul-le-mul_right (over (rem + root * root) flat) pos) (near (rem + root * root) (lt_of_mul-lt-mul_right P (under (rem + root * root) flat)))
+  pub down_sum : rem + root * root ≡ N
+  down_sum = le_antisymm (le_of_mul-le-mul_right (over (rem + root * root) flat) pos) (near (rem + root * root) (lt_of_mul-lt-mul_right P (under (rem + root * root) flat)))
     where
       under : (X : ℕ) → X * P + left ≡ N * P → N * P < (X + 1) * P
       under X f = omega (arith, d.fits)
@@ -69,8 +69,8 @@ module _ (P top N rem root left : ℕ) (d : Down P top N 0 rem root left) where
       near : (X : ℕ) → N < X + 1 → N ≤ X
       near X h = omega arith
 
-  pub down-all : root ≡ wholeRoot N
-  down-all = root_by N root (record { low = omega (arith, down-sum); high = omega (arith, down-sum, sq-suc root, d.less) })
+  pub down_all : root ≡ whole_root N
+  down_all = root_by N root (record { low = omega (arith, down_sum); high = omega (arith, down_sum, sq_suc root, d.less) })
 
 -- ---- the same in words: a shift to the left is a product that the word cuts off, and a bit is shifted in where a 0 stands
 half : (r P : ℕ) → r * 4 < P → r * 2 < P
@@ -96,8 +96,8 @@ module _ (P Q top N n rem root left : ℕ) (p : P ≡ 4 * Q) (q : 0 < Q) (wide :
   at_suc = let back : suc (n - 1) ≡ n = omega arith in subst (λ (k : ℕ). Down P (suc top) N k rem root left) (sym back) d
 
   -- what is brought down, and what is left
-  two-small : left / Q < 4
-  two-small = (div-lt_iff_lt-mul q).1 (lt_of_lt_of_le d.fits (le_of_eq p))
+  two_small : left / Q < 4
+  two_small = (div-lt_iff_lt-mul q).1 (lt_of_lt_of_le d.fits (le_of_eq p))
 
   split : left ≡ left / Q * Q + left % Q
   split = sym (div-add-mod' left Q)
@@ -122,23 +122,23 @@ module _ (P Q top N n rem root left : ℕ) (p : P ≡ 4 * Q) (q : 0 < Q) (wide :
       two : (k : ℕ) → 2 ≤ 2 ^ suc k
       two k = le_trans (mul-le-mul_right 2 (pow_pos k)) (le_of_eq (sym (pow-suc 2 k)))
 
-  rem-fits : rem * 4 + left / Q < P
-  rem-fits = omega (arith, small, two-small, d.less, wide)
+  rem_fits : rem * 4 + left / Q < P
+  rem_fits = omega (arith, small, two_small, d.less, wide)
 
-  root-fits : root * 4 < P
-  root-fits = omega (arith, small, wide)
+  root_fits : root * 4 < P
+  root_fits = omega (arith, small, wide)
 
   pub come : brings P Q rem left ≡ rem * 4 + left / Q
-  come = ap (λ (z : ℕ). bit_or z (left / Q)) (mod-eq_of_lt (lt_of_le_of_lt (le-add_right (rem * 4) (left / Q)) rem-fits)) ∙ or_shifted rem 2 (left / Q) two-small
+  come = ap (λ (z : ℕ). bit_or z (left / Q)) (mod-eq_of_lt (lt_of_le_of_lt (le-add_right (rem * 4) (left / Q)) rem_fits)) ∙ or_shifted rem 2 (left / Q) two_small
 
   pub quad : fourfold P root ≡ root * 4
-  quad = mod-eq_of_lt root-fits
+  quad = mod-eq_of_lt root_fits
 
   put_one : bit_or (root * 2 % P) 1 ≡ root * 2 + 1
-  put_one = put P root 1 (half root P root-fits) (lit< tt)
+  put_one = put P root 1 (half root P root_fits) (lit< tt)
 
-  put-zero : bit_or (root * 2 % P) 0 ≡ root * 2
-  put-zero = put P root 0 (half root P root-fits) (lit< tt) ∙ add-zero (root * 2)
+  put_zero : bit_or (root * 2 % P) 0 ≡ root * 2
+  put_zero = put P root 0 (half root P root_fits) (lit< tt) ∙ add-zero (root * 2)
 
   -- the turn that the code takes
   turn_one : fourfold P root < brings P Q rem left → Down P (suc top) N (n - 1) (brings P Q rem left - fourfold P root - 1) (bit_or (root * 2 % P) 1) (left * 4 % P)
@@ -148,15 +148,15 @@ module _ (P Q top N n rem root left : ℕ) (p : P ≡ 4 * Q) (q : 0 < Q) (wide :
       (subst (λ (z : ℕ). Down P (suc top) N (n - 1) (a - fourfold P root - 1) z (4 * (left % Q))) (sym put_one)
       (subst (λ (z : ℕ). Down P (suc top) N (n - 1) (z - fourfold P root - 1) (root * 2 + 1) (4 * (left % Q))) (sym come)
       (subst (λ (z : ℕ). Down P (suc top) N (n - 1) (rem * 4 + left / Q - z - 1) (root * 2 + 1) (4 * (left % Q))) (sym quad)
-      (down-one P Q (suc top) N (n - 1) rem root left (left / Q) (left % Q) p split two-small (mod-lt left q) at_suc (lt_of_le_of_lt (le_of_eq (sym quad)) (lt_of_lt_of_le h (le_of_eq come)))))))
+      (down_one P Q (suc top) N (n - 1) rem root left (left / Q) (left % Q) p split two_small (mod-lt left q) at_suc (lt_of_le_of_lt (le_of_eq (sym quad)) (lt_of_lt_of_le h (le_of_eq come)))))))
 
-  turn-zero : brings P Q rem left ≤ fourfold P root → Down P (suc top) N (n - 1) (brings P Q rem left) (bit_or (root * 2 % P) 0) (left * 4 % P)
-  turn-zero h =
+  turn_zero : brings P Q rem left ≤ fourfold P root → Down P (suc top) N (n - 1) (brings P Q rem left) (bit_or (root * 2 % P) 0) (left * 4 % P)
+  turn_zero h =
       let a = brings P Q rem left in
       subst (λ (z : ℕ). Down P (suc top) N (n - 1) a (bit_or (root * 2 % P) 0) z) (sym drop)
-      (subst (λ (z : ℕ). Down P (suc top) N (n - 1) a z (4 * (left % Q))) (sym put-zero)
+      (subst (λ (z : ℕ). Down P (suc top) N (n - 1) a z (4 * (left % Q))) (sym put_zero)
       (subst (λ (z : ℕ). Down P (suc top) N (n - 1) z (root * 2) (4 * (left % Q))) (sym come)
-      (down-zero P Q (suc top) N (n - 1) rem root left (left / Q) (left % Q) p split two-small (mod-lt left q) at_suc (le_trans (le_of_eq (sym come)) (le_trans h (le_of_eq quad))))))
+      (down_zero P Q (suc top) N (n - 1) rem root left (left / Q) (left % Q) p split two_small (mod-lt left q) at_suc (le_trans (le_of_eq (sym come)) (le_trans h (le_of_eq quad))))))
 
   -- by the flag of the compare: o is what is beyond the square then, g the digit
   pub turn : (o g : ℕ)
@@ -172,14 +172,14 @@ module _ (P Q top N n rem root left : ℕ) (p : P ≡ 4 * Q) (q : 0 < Q) (wide :
       go : (b : Bool) → (T b → fourfold P root < brings P Q rem left) → (T (not b) → brings P Q rem left ≤ fourfold P root)
           → Down P (suc top) N (n - 1) (cond b (brings P Q rem left - fourfold P root - 1) (brings P Q rem left)) (bit_or (root * 2 % P) (cond b 1 0)) (left * 4 % P)
       go true h g = turn_one (h tt)
-      go false h g = turn-zero (g tt)
+      go false h g = turn_zero (g tt)
 
 -- ---- one root of 64 digits, from its start to its end
-pub down-start : (x : ℕ) → x < 2 ^ 64 → Down (2 ^ 64) 32 x 32 0 0 x
-down-start x h = record { same = scale x; fits = h; less = zero-le; room = lit≤ tt }
+pub down_start : (x : ℕ) → x < 2 ^ 64 → Down (2 ^ 64) 32 x 32 0 0 x
+down_start x h = record { same = scale x; fits = h; less = zero-le; room = lit≤ tt }
   where
     scale : (x : ℕ) → ((0 + 0 * 0) * 2 ^ 64 + x) * 4 ^ 32 ≡ x * 2 ^ 64
     scale x = omega arith
 
-pub down-end : (N n rem root left : ℕ) → n ≤ 0 → Down (2 ^ 64) 32 N n rem root left → root ≡ wholeRoot N
-down-end N n rem root left z d = down-all (2 ^ 64) 32 N rem root left (subst (λ (k : ℕ). Down (2 ^ 64) 32 N k rem root left) (le_antisymm z zero-le) d)
+pub down_end : (N n rem root left : ℕ) → n ≤ 0 → Down (2 ^ 64) 32 N n rem root left → root ≡ whole_root N
+down_end N n rem root left z d = down_all (2 ^ 64) 32 N rem root left (subst (λ (k : ℕ). Down (2 ^ 64) 32 N k rem root left) (le_antisymm z zero-le) d)

@@ -2,39 +2,39 @@
 use Rattle.std.proofs.Common.{◌≡◌, ℕ, zero, suc, ◌+◌, ◌-◌, ◌*◌, ◌/◌, ◌%◌, ◌^◌, ◌<◌, ◌≤◌, Bool, true, false, cond, not, T, ltb, ◌⊎◌, List, length, get_or, replicate, sym, refl, ap, ◌∙◌, subst, inl, inr, le_trans, le_of_eq, lt_of_lt_of_le, lt_of_le_of_lt, mul-le-mul_right, mod-lt, mod-eq_of_lt, mul_assoc, mul_comm, div-lt_iff_lt-mul, add-mul, mul-le-mul, mul-lt-mul_of_pos_right, pow-suc, div-add-mod', arith, lit<, lit≤, ltb→lt, nltb→le, pow_pos, pow_mono, pow-add}
 use native.Mathlib.Nat.{mul-add-mod_self_right}
 use lib.Bits.{bit_or, or_shifted_r}
-use Rattle.bands.specs.Root.{wholeRoot, IsRoot}
+use Rattle.bands.specs.Root.{whole_root, IsRoot}
 use Rattle.bands.specs.Power.{chain}
 use lib.ListN.{length-replicate, get_or-replicate}
 use Rattle.bands.specs.Eights.{Lane, Lanes, Begun, Ended, Near, Nearly, Less}
 use Rattle.transform.proofs.Laws.{side}
 use Rattle.bands.proofs.DoubleRoot.{pow4}
-use Rattle.bands.proofs.Chains.{chain-ge}
+use Rattle.bands.proofs.Chains.{chain_ge}
 use Rattle.bands.proofs.BringDown.{put}
-use Rattle.bands.proofs.Roots.{whole_is, root_by, sq-suc, sq-cancel}
+use Rattle.bands.proofs.Roots.{whole_is, root_by, sq_suc, sq_cancel}
 
 -- ---- near the end: of 2 ^ 31 + k
 square : (m : ℕ) → (2 ^ 31 + m) * (2 ^ 31 + m) ≡ 2 ^ 62 + 2 ^ 32 * m + m * m
 square m = omega arith
 
-is-half : (k f : ℕ) → 2 * f + 1 ≤ k → k ≤ 2 * f + 2 → f ≤ 2 ^ 15 → IsRoot ((2 ^ 31 + k) * 2 ^ 31) (2 ^ 31 + f)
-is-half k f a b c =
+is_half : (k f : ℕ) → 2 * f + 1 ≤ k → k ≤ 2 * f + 2 → f ≤ 2 ^ 15 → IsRoot ((2 ^ 31 + k) * 2 ^ 31) (2 ^ 31 + f)
+is_half k f a b c =
     let sq : f * f ≤ 2 ^ 15 * f = mul-le-mul_right f c in
     let one : (2 ^ 31 + f) * (2 ^ 31 + f) ≡ 2 ^ 62 + 2 ^ 32 * f + f * f = square f in
-    record { low = omega arith; high = omega (arith, sq-suc (2 ^ 31 + f)) }
+    record { low = omega arith; high = omega (arith, sq_suc (2 ^ 31 + f)) }
 
-pub half-some : (x : ℕ) → 2 ^ 31 ≤ x → x < 2 ^ 31 + 2 ^ 16 → 0 < x - 2 ^ 31 → bit_or ((x - 2 ^ 31 - 1) / 2) (2 ^ 31) ≡ wholeRoot (x * 2 ^ 31)
-half-some x lo hi h =
+pub half_some : (x : ℕ) → 2 ^ 31 ≤ x → x < 2 ^ 31 + 2 ^ 16 → 0 < x - 2 ^ 31 → bit_or ((x - 2 ^ 31 - 1) / 2) (2 ^ 31) ≡ whole_root (x * 2 ^ 31)
+half_some x lo hi h =
     let k = x - 2 ^ 31 in
     let e : 2 ^ 31 + k ≡ x = omega arith in
     or_shifted_r 1 31 ((k - 1) / 2) (omega arith)
-    ∙ subst (λ (z : ℕ). 2 ^ 31 + (k - 1) / 2 ≡ wholeRoot (z * 2 ^ 31)) e (root_by _ _ (is-half k ((k - 1) / 2) (omega arith) (omega arith) (omega arith)))
+    ∙ subst (λ (z : ℕ). 2 ^ 31 + (k - 1) / 2 ≡ whole_root (z * 2 ^ 31)) e (root_by _ _ (is_half k ((k - 1) / 2) (omega arith) (omega arith) (omega arith)))
 
-pub half-none : (x : ℕ) → 2 ^ 31 ≤ x → x - 2 ^ 31 ≤ 0 → x ≡ wholeRoot (x * 2 ^ 31)
-half-none x lo h = let e : 2 ^ 31 ≡ x = omega arith in subst (λ (z : ℕ). z ≡ wholeRoot (z * 2 ^ 31)) e (root_by (2 ^ 31 * 2 ^ 31) (2 ^ 31) (record { low = lit≤ tt; high = lit< tt }))
+pub half_none : (x : ℕ) → 2 ^ 31 ≤ x → x - 2 ^ 31 ≤ 0 → x ≡ whole_root (x * 2 ^ 31)
+half_none x lo h = let e : 2 ^ 31 ≡ x = omega arith in subst (λ (z : ℕ). z ≡ whole_root (z * 2 ^ 31)) e (root_by (2 ^ 31 * 2 ^ 31) (2 ^ 31) (record { low = lit≤ tt; high = lit< tt }))
 
 -- ---- three digits more
-is-three : (r m e : ℕ) → r * e * 16 + e * e ≤ 64 * m → 64 * m < r * (e + 1) * 16 + (e + 1) * (e + 1) → 8 * r + e ≡ wholeRoot ((m + r * r) * 64)
-is-three r m e a b = root_by _ _ (record { low = omega (arith, square r e); high = omega (arith, square r (e + 1)) })
+is_three : (r m e : ℕ) → r * e * 16 + e * e ≤ 64 * m → 64 * m < r * (e + 1) * 16 + (e + 1) * (e + 1) → 8 * r + e ≡ whole_root ((m + r * r) * 64)
+is_three r m e a b = root_by _ _ (record { low = omega (arith, square r e); high = omega (arith, square r (e + 1)) })
   where
     square : (r e : ℕ) → (8 * r + e) * (8 * r + e) ≡ 64 * (r * r) + r * e * 16 + e * e
     square r e = omega arith
@@ -68,8 +68,8 @@ module _ (r m x a y b : ℕ) (R : r < 2 ^ 29) (M : m ≤ 2 * r) (fx : Leaves x r
 
   module _ (fy : Leaves y r a x b) where
     -- what the squares of x and y, and of the third digit, still take
-    pub second-small : (b ≤ 2 * r + 2) × (y ≤ 1) × (0 < x → 2 * y + 1 ≤ b)
-    second-small = go fx fy
+    pub second_small : (b ≤ 2 * r + 2) × (y ≤ 1) × (0 < x → 2 * y + 1 ≤ b)
+    second_small = go fx fy
       where
         go : Leaves x r m 0 a → Leaves y r a x b → (b ≤ 2 * r + 2) × (y ≤ 1) × (0 < x → 2 * y + 1 ≤ b)
         go (inl s) (inl t) = (omega arith, omega arith, λ h. omega arith)
@@ -77,13 +77,13 @@ module _ (r m x a y b : ℕ) (R : r < 2 ^ 29) (M : m ≤ 2 * r) (fx : Leaves x r
         go (inr s) (inl t) = (omega arith, omega arith, λ h. omega arith)
         go (inr s) (inr t) = (omega arith, omega arith, λ h. omega arith)
 
-    pub three : (z c : ℕ) → Told z r c → Less c b x (2 * y + 1) → 8 * r + 4 * x + 2 * y + z ≡ wholeRoot ((m + r * r) * 64)
+    pub three : (z c : ℕ) → Told z r c → Less c b x (2 * y + 1) → 8 * r + 4 * x + 2 * y + z ≡ whole_root ((m + r * r) * 64)
     three z c tz l = go fx fy tz
       where
-        is : (e : ℕ) → 4 * x + 2 * y + z ≡ e → r * e * 16 + e * e ≤ 64 * m → 64 * m < r * (e + 1) * 16 + (e + 1) * (e + 1) → 8 * r + 4 * x + 2 * y + z ≡ wholeRoot ((m + r * r) * 64)
-        is e s h g = let w : 8 * r + 4 * x + 2 * y + z ≡ 8 * r + e = omega arith in w ∙ is-three r m e h g
+        is : (e : ℕ) → 4 * x + 2 * y + z ≡ e → r * e * 16 + e * e ≤ 64 * m → 64 * m < r * (e + 1) * 16 + (e + 1) * (e + 1) → 8 * r + 4 * x + 2 * y + z ≡ whole_root ((m + r * r) * 64)
+        is e s h g = let w : 8 * r + 4 * x + 2 * y + z ≡ 8 * r + e = omega arith in w ∙ is_three r m e h g
 
-        go : Leaves x r m 0 a → Leaves y r a x b → Told z r c → 8 * r + 4 * x + 2 * y + z ≡ wholeRoot ((m + r * r) * 64)
+        go : Leaves x r m 0 a → Leaves y r a x b → Told z r c → 8 * r + 4 * x + 2 * y + z ≡ whole_root ((m + r * r) * 64)
         go (inl s) (inl t) (inl u) = let w = l.none s.0 in is 0 (omega arith) (omega arith) (omega arith)
         go (inl s) (inl t) (inr u) = let w = l.none s.0 in is 1 (omega arith) (omega arith) (omega arith)
         go (inl s) (inr t) (inl u) = let w = l.none s.0 in is 2 (omega arith) (omega arith) (omega arith)
@@ -111,17 +111,17 @@ shifted r x y z R X Y Z =
 pub odd : (y : ℕ) → y ≤ 1 → bit_or (y * 2 % 2 ^ 32) 1 ≡ 2 * y + 1
 odd y h = put (2 ^ 32) y 1 (omega arith) (lit< tt) ∙ ap (λ (k : ℕ). k + 1) (mul_comm y 2)
 
-pub told-some : (d r t : ℕ) → Told d r t → 0 < d → r < t
-told-some d r t (inl s) h = omega arith
-told-some d r t (inr s) h = s.1
+pub told_some : (d r t : ℕ) → Told d r t → 0 < d → r < t
+told_some d r t (inl s) h = omega arith
+told_some d r t (inr s) h = s.1
 
-pub told-le : (d r t v a s : ℕ) → Told d r t → Less v a d s → v ≤ a
-told-le d r t v a s (inl h) l = let e = l.none h.0 in omega arith
-told-le d r t v a s (inr h) l = let e = l.one h.0 in omega arith
+pub told_le : (d r t v a s : ℕ) → Told d r t → Less v a d s → v ≤ a
+told_le d r t v a s (inl h) l = let e = l.none h.0 in omega arith
+told_le d r t v a s (inr h) l = let e = l.one h.0 in omega arith
 
-pub told-bit : (d r t : ℕ) → Told d r t → d ≤ 1
-told-bit d r t (inl s) = omega arith
-told-bit d r t (inr s) = omega arith
+pub told_bit : (d r t : ℕ) → Told d r t → d ≤ 1
+told_bit d r t (inl s) = omega arith
+told_bit d r t (inr s) = omega arith
 
 -- ---- where the digits begin: number j of a chain is 2 ^ 31 + k, and twice k comes down
 join : (a b c : ℕ) → a + b ≡ c → 2 ^ a * 2 ^ b ≡ 2 ^ c
@@ -193,8 +193,8 @@ module _ (x j : ℕ) (J : j < 15) (lo : 2 ^ 31 ≤ x) (hi : x < 2 ^ 31 + 2 ^ (31
       up : (j : ℕ) → j < 15 → 1 + j ≤ 15
       up j h = omega arith
 
-  pub lane-chain : Lane (2 ^ 56 + (x - 2 ^ 31) * 2 ^ 25) (27 - j) (x * 2 % 2 ^ 32 / 2 ^ (30 - j * 2 % 2 ^ 64)) (2 * 2 ^ j % 2 ^ 32) (x * 2 % 2 ^ 32 * 2 ^ (32 - (30 - j * 2 % 2 ^ 64)) % 2 ^ 32)
-  lane-chain =
+  pub lane_chain : Lane (2 ^ 56 + (x - 2 ^ 31) * 2 ^ 25) (27 - j) (x * 2 % 2 ^ 32 / 2 ^ (30 - j * 2 % 2 ^ 64)) (2 * 2 ^ j % 2 ^ 32) (x * 2 % 2 ^ 32 * 2 ^ (32 - (30 - j * 2 % 2 ^ 64)) % 2 ^ 32)
+  lane_chain =
       subst (λ (s : ℕ). Lane (2 ^ 56 + (x - 2 ^ 31) * 2 ^ 25) (27 - j) (x * 2 % 2 ^ 32 / 2 ^ s) (2 * 2 ^ j % 2 ^ 32) (x * 2 % 2 ^ 32 * 2 ^ (32 - s) % 2 ^ 32)) (sym shift_is)
       (subst (λ (w : ℕ). Lane (2 ^ 56 + (x - 2 ^ 31) * 2 ^ 25) (27 - j) (w / 2 ^ (30 - 2 * j)) (2 * 2 ^ j % 2 ^ 32) (w * 2 ^ (32 - (30 - 2 * j)) % 2 ^ 32)) (sym twice)
       (subst (λ (r : ℕ). Lane (2 ^ 56 + (x - 2 ^ 31) * 2 ^ 25) (27 - j) (2 * (x - 2 ^ 31) / 2 ^ (30 - 2 * j)) r (2 * (x - 2 ^ 31) * 2 ^ (32 - (30 - 2 * j)) % 2 ^ 32)) (sym bit)
@@ -218,15 +218,15 @@ module _ (x j : ℕ) (J : j < 15) (lo : 2 ^ 31 ≤ x) (hi : x < 2 ^ 31 + 2 ^ (31
           sum p h = omega arith
 
   -- what the digits end in
-  pub chain-few : wholeRoot (2 ^ 56 + (x - 2 ^ 31) * 2 ^ 25) < 2 ^ 29
-  chain-few = sq-cancel _ (2 ^ 29) (lt_of_le_of_lt (whole_is (2 ^ 56 + (x - 2 ^ 31) * 2 ^ 25)).low (omega (arith, below)))
+  pub chain_few : whole_root (2 ^ 56 + (x - 2 ^ 31) * 2 ^ 25) < 2 ^ 29
+  chain_few = sq_cancel _ (2 ^ 29) (lt_of_le_of_lt (whole_is (2 ^ 56 + (x - 2 ^ 31) * 2 ^ 25)).low (omega (arith, below)))
 
   pub chain_same : (n : ℕ) → n ≡ 2 ^ 56 + (x - 2 ^ 31) * 2 ^ 25 → n * 64 ≡ x * 2 ^ 31
   chain_same n e = omega arith
 
 -- what is beyond the square of a whole root
-pub rest-small : (n r m : ℕ) → r ≡ wholeRoot n → m + r * r ≡ n → m ≤ 2 * r
-rest-small n r m e s = let h = subst (IsRoot n) (sym e) (whole_is n) in omega (arith, h.high, sq-suc r)
+pub rest_small : (n r m : ℕ) → r ≡ whole_root n → m + r * r ≡ n → m ≤ 2 * r
+rest_small n r m e s = let h = subst (IsRoot n) (sym e) (whole_is n) in omega (arith, h.high, sq_suc r)
 
 -- ---- number j of a chain is near 2 ^ 31
 near_step : (x r p : ℕ) → IsRoot (x * 2 ^ 31) r → 2 ^ 31 ≤ r → x < 2 ^ 31 + 2 * p → r < 2 ^ 31 + p
@@ -236,8 +236,8 @@ near_step x r p h lo hi =
     let s : r * r ≡ 2 ^ 62 + 2 ^ 32 * m + m * m = ap (λ (z : ℕ). z * z) (sym e) ∙ square m in
     omega (arith, h.low)
 
-half-power : (j : ℕ) → 2 ^ (31 - j) ≤ 2 * 2 ^ (31 - suc j)
-half-power j = elim (side j 31) [
+half_power : (j : ℕ) → 2 ^ (31 - j) ≤ 2 * 2 ^ (31 - suc j)
+half_power j = elim (side j 31) [
   | inl h ↦ le_of_eq (ap (λ (z : ℕ). 2 ^ z) (more j h) ∙ pow-suc 2 (31 - suc j) ∙ mul_comm (2 ^ (31 - suc j)) 2)
   | inr h ↦ le_trans (le_of_eq (ap (λ (z : ℕ). 2 ^ z) (none j h))) (mul-le-mul {n₁ = 1} {n₂ = 2} (lit≤ tt) (pow_pos (31 - suc j)))
 ]
@@ -248,46 +248,46 @@ half-power j = elim (side j 31) [
     none : (j : ℕ) → 31 ≤ j → 31 - j ≡ 0
     none j h = omega arith
 
-pub chain-near : (r : ℕ) → 2 ^ 31 ≤ r → r < 2 ^ 32 → (j : ℕ) → chain r j < 2 ^ 31 + 2 ^ (31 - j)
+pub chain_near : (r : ℕ) → 2 ^ 31 ≤ r → r < 2 ^ 32 → (j : ℕ) → chain r j < 2 ^ 31 + 2 ^ (31 - j)
 unfolding chain
-chain-near r lo hi zero = hi
-chain-near r lo hi (suc j) = near_step (chain r j) (chain r (suc j)) (2 ^ (31 - suc j)) (whole_is (chain r j * 2 ^ 31)) (chain-ge r lo (suc j)) (lt_of_lt_of_le (chain-near r lo hi j) (up (2 ^ (31 - j)) (2 * 2 ^ (31 - suc j)) (half-power j)))
+chain_near r lo hi zero = hi
+chain_near r lo hi (suc j) = near_step (chain r j) (chain r (suc j)) (2 ^ (31 - suc j)) (whole_is (chain r j * 2 ^ 31)) (chain_ge r lo (suc j)) (lt_of_lt_of_le (chain_near r lo hi j) (up (2 ^ (31 - j)) (2 * 2 ^ (31 - suc j)) (half_power j)))
   where
     up : (a b : ℕ) → a ≤ b → 2 ^ 31 + a ≤ 2 ^ 31 + b
     up a b h = omega arith
 
 -- ---- eight chains
 -- what lane i is the root of
-abbrev sixtyFourth : List ℕ → ℕ → ℕ
-sixtyFourth last i = 2 ^ 56 + (get_or last i 0 - 2 ^ 31) * 2 ^ 25
+abbrev sixty_fourth : List ℕ → ℕ → ℕ
+sixty_fourth last i = 2 ^ 56 + (get_or last i 0 - 2 ^ 31) * 2 ^ 25
 
 module _ (j : ℕ) (last rem left : List ℕ) (J : j < 15) (n : Near j last) (rems : length rem ≡ 8) (lefts : length left ≡ 8)
     (r : (i : ℕ) → i < 8 → get_or rem i 0 ≡ get_or last i 0 * 2 % 2 ^ 32 / 2 ^ (30 - j * 2 % 2 ^ 64))
     (l : (i : ℕ) → i < 8 → get_or left i 0 ≡ get_or last i 0 * 2 % 2 ^ 32 * 2 ^ (32 - (30 - j * 2 % 2 ^ 64)) % 2 ^ 32) where
-  chain-lanes : Lanes (sixtyFourth last) (27 - j) (replicate 8 (2 * 2 ^ j % 2 ^ 32)) rem left
-  chain-lanes = record {
+  chain_lanes : Lanes (sixty_fourth last) (27 - j) (replicate 8 (2 * 2 ^ j % 2 ^ 32)) rem left
+  chain_lanes = record {
     roots = length-replicate {A = ℕ} 8 (2 * 2 ^ j % 2 ^ 32);
     rems = rems;
     lefts = lefts;
     each = λ i h.
-        subst (λ (z : ℕ). Lane (sixtyFourth last i) (27 - j) z (get_or (replicate 8 (2 * 2 ^ j % 2 ^ 32)) i 0) (get_or left i 0)) (sym (r i h))
-        (subst (λ (z : ℕ). Lane (sixtyFourth last i) (27 - j) (get_or last i 0 * 2 % 2 ^ 32 / 2 ^ (30 - j * 2 % 2 ^ 64)) z (get_or left i 0)) (sym (get_or-replicate {A = ℕ} 8 i (2 * 2 ^ j % 2 ^ 32) 0 h))
-        (subst (λ (z : ℕ). Lane (sixtyFourth last i) (27 - j) (get_or last i 0 * 2 % 2 ^ 32 / 2 ^ (30 - j * 2 % 2 ^ 64)) (2 * 2 ^ j % 2 ^ 32) z) (sym (l i h)) (lane-chain (get_or last i 0) j J (n.low i h) (n.high i h))));
+        subst (λ (z : ℕ). Lane (sixty_fourth last i) (27 - j) z (get_or (replicate 8 (2 * 2 ^ j % 2 ^ 32)) i 0) (get_or left i 0)) (sym (r i h))
+        (subst (λ (z : ℕ). Lane (sixty_fourth last i) (27 - j) (get_or last i 0 * 2 % 2 ^ 32 / 2 ^ (30 - j * 2 % 2 ^ 64)) z (get_or left i 0)) (sym (get_or-replicate {A = ℕ} 8 i (2 * 2 ^ j % 2 ^ 32) 0 h))
+        (subst (λ (z : ℕ). Lane (sixty_fourth last i) (27 - j) (get_or last i 0 * 2 % 2 ^ 32 / 2 ^ (30 - j * 2 % 2 ^ 64)) (2 * 2 ^ j % 2 ^ 32) z) (sym (l i h)) (lane_chain (get_or last i 0) j J (n.low i h) (n.high i h))));
   }
 
-  pub chains-begun : Begun (27 - j) (replicate 8 (2 * 2 ^ j % 2 ^ 32)) rem left
-  chains-begun = record { of = sixtyFourth last; lanes = chain-lanes }
+  pub chains_begun : Begun (27 - j) (replicate 8 (2 * 2 ^ j % 2 ^ 32)) rem left
+  chains_begun = record { of = sixty_fourth last; lanes = chain_lanes }
 
-  pub chains-nearly : (root beyond : List ℕ) → Ended (27 - j) (replicate 8 (2 * 2 ^ j % 2 ^ 32)) rem left root beyond → Nearly last root beyond
-  chains-nearly root beyond e = record {
-    few = λ i h. lt_of_le_of_lt (le_of_eq (e.is (sixtyFourth last) chain-lanes i h)) (chain-few (get_or last i 0) j J (n.low i h) (n.high i h));
-    less = λ i h. rest-small (sixtyFourth last i) (get_or root i 0) (get_or beyond i 0) (e.is (sixtyFourth last) chain-lanes i h) (e.sum (sixtyFourth last) chain-lanes i h);
-    same = λ i h. chain_same (get_or last i 0) j J (n.low i h) (n.high i h) _ (e.sum (sixtyFourth last) chain-lanes i h);
+  pub chains_nearly : (root beyond : List ℕ) → Ended (27 - j) (replicate 8 (2 * 2 ^ j % 2 ^ 32)) rem left root beyond → Nearly last root beyond
+  chains_nearly root beyond e = record {
+    few = λ i h. lt_of_le_of_lt (le_of_eq (e.is (sixty_fourth last) chain_lanes i h)) (chain_few (get_or last i 0) j J (n.low i h) (n.high i h));
+    less = λ i h. rest_small (sixty_fourth last i) (get_or root i 0) (get_or beyond i 0) (e.is (sixty_fourth last) chain_lanes i h) (e.sum (sixty_fourth last) chain_lanes i h);
+    same = λ i h. chain_same (get_or last i 0) j J (n.low i h) (n.high i h) _ (e.sum (sixty_fourth last) chain_lanes i h);
   }
 
 -- near their ends
-pub near-end : (j : ℕ) (l : List ℕ) → 15 ≤ j → Near j l → Near 15 l
-near-end j l h n = record { low = n.low; high = λ i b. lt_of_lt_of_le (n.high i b) (up (2 ^ (31 - j)) (pow_mono (fewer j h))) }
+pub near_end : (j : ℕ) (l : List ℕ) → 15 ≤ j → Near j l → Near 15 l
+near_end j l h n = record { low = n.low; high = λ i b. lt_of_lt_of_le (n.high i b) (up (2 ^ (31 - j)) (pow_mono (fewer j h))) }
   where
     up : (p : ℕ) → p ≤ 2 ^ 16 → 2 ^ 31 + p ≤ 2 ^ 31 + 2 ^ 16
     up p h = omega arith
@@ -296,8 +296,8 @@ near-end j l h n = record { low = n.low; high = λ i b. lt_of_lt_of_le (n.high i
     fewer j h = omega arith
 
 -- by number j of each
-pub near-chains : (first last : List ℕ) (j : ℕ) → ((i : ℕ) → i < 8 → 2 ^ 31 ≤ get_or first i 0) → ((i : ℕ) → i < 8 → get_or first i 0 < 2 ^ 32) → ((i : ℕ) → i < 8 → get_or last i 0 ≡ chain (get_or first i 0) j) → Near j last
-near-chains first last j lo hi e = record {
-  low = λ i h. le_trans (chain-ge (get_or first i 0) (lo i h) j) (le_of_eq (sym (e i h)));
-  high = λ i h. lt_of_le_of_lt (le_of_eq (e i h)) (chain-near (get_or first i 0) (lo i h) (hi i h) j);
+pub near_chains : (first last : List ℕ) (j : ℕ) → ((i : ℕ) → i < 8 → 2 ^ 31 ≤ get_or first i 0) → ((i : ℕ) → i < 8 → get_or first i 0 < 2 ^ 32) → ((i : ℕ) → i < 8 → get_or last i 0 ≡ chain (get_or first i 0) j) → Near j last
+near_chains first last j lo hi e = record {
+  low = λ i h. le_trans (chain_ge (get_or first i 0) (lo i h) j) (le_of_eq (sym (e i h)));
+  high = λ i h. lt_of_le_of_lt (le_of_eq (e i h)) (chain_near (get_or first i 0) (lo i h) (hi i h) j);
 }

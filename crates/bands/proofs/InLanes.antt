@@ -4,25 +4,25 @@ use lib.Bits.{bit_or}
 use lib.Signed.{lt_z}
 use mir.ValLaws.{to_z_pos}
 use Rattle.bands.specs.Eights.{Lane, Lanes, Begun, Turning, Turned, Ended}
-use Rattle.bands.proofs.ChainLists.{split-lt}
-use Rattle.bands.proofs.BringDown.{brings, fourfold, small, come, quad, turn, down-sum, down-all}
+use Rattle.bands.proofs.ChainLists.{split_lt}
+use Rattle.bands.proofs.BringDown.{brings, fourfold, small, come, quad, turn, down_sum, down_all}
 
 -- below 2 ^ 31 the signed compare is the compare
-pub signed-less : (t a : ℕ) → t < 2 ^ 31 → a < 2 ^ 31 → lt_z (to_z w32 t) (to_z w32 a) ≡ ltb t a
-signed-less t a h g = ap₂ lt_z (to_z_pos w32 t h) (to_z_pos w32 a g)
+pub signed_less : (t a : ℕ) → t < 2 ^ 31 → a < 2 ^ 31 → lt_z (to_z w32 t) (to_z w32 a) ≡ ltb t a
+signed_less t a h g = ap₂ lt_z (to_z_pos w32 t h) (to_z_pos w32 a g)
 
 -- ---- one lane
 module _ (N n rem root left : ℕ) (K : 0 < n) (d : Lane N n rem root left) where
   -- the lemma over the lane: a turn leaves one digit less to come
-  pub lane-turn : (o g : ℕ)
+  pub lane_turn : (o g : ℕ)
       → o ≡ cond (ltb (fourfold (2 ^ 32) root) (brings (2 ^ 32) (2 ^ 30) rem left)) (brings (2 ^ 32) (2 ^ 30) rem left - fourfold (2 ^ 32) root - 1) (brings (2 ^ 32) (2 ^ 30) rem left)
       → g ≡ cond (ltb (fourfold (2 ^ 32) root) (brings (2 ^ 32) (2 ^ 30) rem left)) 1 0
       → Lane N (n - 1) o (bit_or (root * 2 % 2 ^ 32) g) (left * 4 % 2 ^ 32)
-  lane-turn = turn (2 ^ 32) (2 ^ 30) 28 N n rem root left refl (lit< tt) (lit≤ tt) K d
+  lane_turn = turn (2 ^ 32) (2 ^ 30) 28 N n rem root left refl (lit< tt) (lit≤ tt) K d
 
   -- what it compares is small
-  pub lane-small : (fourfold (2 ^ 32) root < 2 ^ 31) × (brings (2 ^ 32) (2 ^ 30) rem left < 2 ^ 31)
-  lane-small =
+  pub lane_small : (fourfold (2 ^ 32) root < 2 ^ 31) × (brings (2 ^ 32) (2 ^ 30) rem left < 2 ^ 31)
+  lane_small =
       let s = small (2 ^ 32) (2 ^ 30) 28 N n rem root left refl (lit< tt) (lit≤ tt) K d in (
         lt_of_le_of_lt (le_of_eq (quad (2 ^ 32) (2 ^ 30) 28 N n rem root left refl (lit< tt) (lit≤ tt) K d)) (omega (arith, s)),
         lt_of_le_of_lt (le_of_eq (come (2 ^ 32) (2 ^ 30) 28 N n rem root left refl (lit< tt) (lit≤ tt) K d)) (omega (arith, s, d.less, d.fits)),
@@ -39,11 +39,11 @@ pub record Passing (root₀ rem₀ left₀ root rem left : List ℕ) (i : ℕ) :
 none : (k : ℕ) → k < 0 → ⊥
 none k h = omega arith
 
-pub passing-none : (root rem left : List ℕ) → Passing root rem left root rem left 0
-passing-none root rem left = record { roots = refl; rems = refl; lefts = refl; before = λ N n k h g K d. absurd (none k h); after = λ N n k h g d. d }
+pub passing_none : (root rem left : List ℕ) → Passing root rem left root rem left 0
+passing_none root rem left = record { roots = refl; rems = refl; lefts = refl; before = λ N n k h g K d. absurd (none k h); after = λ N n k h g d. d }
 
-pub passing-all : (root₀ rem₀ left₀ root rem left : List ℕ) (i : ℕ) → 8 ≤ i → Passing root₀ rem₀ left₀ root rem left i → Turned root₀ rem₀ left₀ root rem left
-passing-all root₀ rem₀ left₀ root rem left i h t = record {
+pub passing_all : (root₀ rem₀ left₀ root rem left : List ℕ) (i : ℕ) → 8 ≤ i → Passing root₀ rem₀ left₀ root rem left i → Turned root₀ rem₀ left₀ root rem left
+passing_all root₀ rem₀ left₀ root rem left i h t = record {
   lanes = λ N n K o. record {
     roots = t.roots ∙ o.roots;
     rems = t.rems ∙ o.rems;
@@ -53,11 +53,11 @@ passing-all root₀ rem₀ left₀ root rem left i h t = record {
 }
 
 -- lane i is still as it was
-pub passing-lane : (root₀ rem₀ left₀ root rem left : List ℕ) (i : ℕ) → i < 8 → (t : Turning root₀ rem₀ left₀) → Passing root₀ rem₀ left₀ root rem left i → Lane (t.begun.of i) t.n (get_or rem i 0) (get_or root i 0) (get_or left i 0)
-passing-lane root₀ rem₀ left₀ root rem left i I t p = p.after (t.begun.of i) t.n i (le_of_eq refl) I (t.begun.lanes.each i I)
+pub passing_lane : (root₀ rem₀ left₀ root rem left : List ℕ) (i : ℕ) → i < 8 → (t : Turning root₀ rem₀ left₀) → Passing root₀ rem₀ left₀ root rem left i → Lane (t.begun.of i) t.n (get_or rem i 0) (get_or root i 0) (get_or left i 0)
+passing_lane root₀ rem₀ left₀ root rem left i I t p = p.after (t.begun.of i) t.n i (le_of_eq refl) I (t.begun.lanes.each i I)
 
-pub turning-long : (root₀ rem₀ left₀ root rem left : List ℕ) (i : ℕ) → Turning root₀ rem₀ left₀ → Passing root₀ rem₀ left₀ root rem left i → (length root ≡ 8) × (length rem ≡ 8) × (length left ≡ 8)
-turning-long root₀ rem₀ left₀ root rem left i t p = let l = t.begun.lanes in (p.roots ∙ l.roots, p.rems ∙ l.rems, p.lefts ∙ l.lefts)
+pub turning_long : (root₀ rem₀ left₀ root rem left : List ℕ) (i : ℕ) → Turning root₀ rem₀ left₀ → Passing root₀ rem₀ left₀ root rem left i → (length root ≡ 8) × (length rem ≡ 8) × (length left ≡ 8)
+turning_long root₀ rem₀ left₀ root rem left i t p = let l = t.begun.lanes in (p.roots ∙ l.roots, p.rems ∙ l.rems, p.lefts ∙ l.lefts)
 
 -- it takes its turn
 module _ (root₀ rem₀ left₀ root rem left : List ℕ) (i r o l : ℕ) (I : i < 8) (t : Turning root₀ rem₀ left₀) (p : Passing root₀ rem₀ left₀ root rem left i)
@@ -73,17 +73,17 @@ module _ (root₀ rem₀ left₀ root rem left : List ℕ) (i r o l : ℕ) (I : 
 
   here : (N n : ℕ) → Lane N n o r l → Lane N n (get_or (set rem i o) i 0) (get_or (set root i r) i 0) (get_or (set left i l) i 0)
   here N n w =
-      let e = turning-long root₀ rem₀ left₀ root rem left i t p in
+      let e = turning_long root₀ rem₀ left₀ root rem left i t p in
       subst (λ (z : ℕ). Lane N n z (get_or (set root i r) i 0) (get_or (set left i l) i 0)) (sym (get_or-set_same rem i o 0 (inside rem e.1)))
       (subst (λ (z : ℕ). Lane N n o z (get_or (set left i l) i 0)) (sym (get_or-set_same root i r 0 (inside root e.0)))
       (subst (λ (z : ℕ). Lane N n o r z) (sym (get_or-set_same left i l 0 (inside left e.2))) w))
 
-  pub passing-more : Passing root₀ rem₀ left₀ (set root i r) (set rem i o) (set left i l) (i + 1)
-  passing-more = record {
+  pub passing_more : Passing root₀ rem₀ left₀ (set root i r) (set rem i o) (set left i l) (i + 1)
+  passing_more = record {
     roots = length-set root i r ∙ p.roots;
     rems = length-set rem i o ∙ p.rems;
     lefts = length-set left i l ∙ p.lefts;
-    before = λ N n k h g K. go N n k g K (split-lt k i h);
+    before = λ N n k h g K. go N n k g K (split_lt k i h);
     after = λ N n k h g w. other N n k (λ (e : k ≡ i). lt_irrefl k (lt_of_lt_of_le (below k i e) h)) (p.after N n k (le_trans (up i) h) g w);
   }
     where
@@ -104,19 +104,19 @@ module _ (root₀ rem₀ left₀ root rem left : List ℕ) (i r o l : ℕ) (I : 
 pub record Coming (n : ℕ) (root₀ rem₀ left₀ root rem left : List ℕ) (k : ℕ) : Type 0 where
   pub lanes : (N : ℕ → ℕ) → Lanes N n root₀ rem₀ left₀ → Lanes N k root rem left
 
-pub coming-none : (n : ℕ) (root rem left : List ℕ) → Coming n root rem left root rem left n
-coming-none n root rem left = record { lanes = λ N o. o }
+pub coming_none : (n : ℕ) (root rem left : List ℕ) → Coming n root rem left root rem left n
+coming_none n root rem left = record { lanes = λ N o. o }
 
-pub coming-turning : (n : ℕ) (root₀ rem₀ left₀ root rem left : List ℕ) (k : ℕ) → 0 < k → Begun n root₀ rem₀ left₀ → Coming n root₀ rem₀ left₀ root rem left k → Turning root rem left
-coming-turning n root₀ rem₀ left₀ root rem left k K b t = record { n = k; more = K; begun = record { of = b.of; lanes = t.lanes b.of b.lanes } }
+pub coming_turning : (n : ℕ) (root₀ rem₀ left₀ root rem left : List ℕ) (k : ℕ) → 0 < k → Begun n root₀ rem₀ left₀ → Coming n root₀ rem₀ left₀ root rem left k → Turning root rem left
+coming_turning n root₀ rem₀ left₀ root rem left k K b t = record { n = k; more = K; begun = record { of = b.of; lanes = t.lanes b.of b.lanes } }
 
-pub coming-more : (n : ℕ) (root₀ rem₀ left₀ root rem left root' rem' left' : List ℕ) (k : ℕ) → 0 < k → Coming n root₀ rem₀ left₀ root rem left k → Turned root rem left root' rem' left' → Coming n root₀ rem₀ left₀ root' rem' left' (k - 1)
-coming-more n root₀ rem₀ left₀ root rem left root' rem' left' k K t u = record { lanes = λ N o. u.lanes N k K (t.lanes N o) }
+pub coming_more : (n : ℕ) (root₀ rem₀ left₀ root rem left root' rem' left' : List ℕ) (k : ℕ) → 0 < k → Coming n root₀ rem₀ left₀ root rem left k → Turned root rem left root' rem' left' → Coming n root₀ rem₀ left₀ root' rem' left' (k - 1)
+coming_more n root₀ rem₀ left₀ root rem left root' rem' left' k K t u = record { lanes = λ N o. u.lanes N k K (t.lanes N o) }
 
-pub coming-all : (n : ℕ) (root₀ rem₀ left₀ root rem left : List ℕ) (k : ℕ) → k ≤ 0 → Coming n root₀ rem₀ left₀ root rem left k → Ended n root₀ rem₀ left₀ root rem
-coming-all n root₀ rem₀ left₀ root rem left k z t = record {
-  is = λ N o i h. down-all (2 ^ 32) 29 (N i) _ _ _ (last N o i h);
-  sum = λ N o i h. down-sum (2 ^ 32) 29 (N i) _ _ _ (last N o i h);
+pub coming_all : (n : ℕ) (root₀ rem₀ left₀ root rem left : List ℕ) (k : ℕ) → k ≤ 0 → Coming n root₀ rem₀ left₀ root rem left k → Ended n root₀ rem₀ left₀ root rem
+coming_all n root₀ rem₀ left₀ root rem left k z t = record {
+  is = λ N o i h. down_all (2 ^ 32) 29 (N i) _ _ _ (last N o i h);
+  sum = λ N o i h. down_sum (2 ^ 32) 29 (N i) _ _ _ (last N o i h);
 }
   where
     last : (N : ℕ → ℕ) → Lanes N n root₀ rem₀ left₀ → (i : ℕ) → i < 8 → Lane (N i) 0 (get_or rem i 0) (get_or root i 0) (get_or left i 0)

@@ -2,20 +2,20 @@
 use Rattle.std.proofs.Common.{◌≡◌, ℕ, ◌+◌, ◌-◌, ◌*◌, ◌/◌, ◌%◌, ◌^◌, ◌<◌, ◌≤◌, sym, refl, ap, ◌∙◌, subst, zero-le, le_trans, le_of_eq, lt_of_le_of_lt, mul-le-mul, arith, lit<, lit≤}
 use lib.Bits.{bit_or, or_shifted_r}
 use lib.Ieee.{binary32, of_bits}
-use Rattle.bands.specs.Root.{wholeRoot, rootOf, IsRoot}
+use Rattle.bands.specs.Root.{whole_root, root_of, IsRoot}
 use Rattle.bands.specs.Views.{Lifted}
-use Rattle.bands.specs.Eights.{Lane, raisedOf}
-use Rattle.bands.proofs.Roots.{whole_is, sq-cancel}
+use Rattle.bands.specs.Eights.{Lane, raised_of}
+use Rattle.bands.proofs.Roots.{whole_is, sq_cancel}
 use Rattle.bands.proofs.Lift.{start, done}
-use Rattle.bands.proofs.Written.{root-bits}
-use Rattle.bands.proofs.RootFields.{root-high}
+use Rattle.bands.proofs.Written.{root_bits}
+use Rattle.bands.proofs.RootFields.{root_high}
 
 -- ---- moved up
-by-parity : (b p : ℕ) → (b / 2 ^ 23 + 1) % 2 ≡ p → (b % 2 ^ 23 + 2 ^ 23) * 2 ^ 7 * (1 + p) ≡ raisedOf b
-by-parity b p e = ap (λ (z : ℕ). (b % 2 ^ 23 + 2 ^ 23) * 2 ^ 7 * (1 + z)) (sym e)
+by_parity : (b p : ℕ) → (b / 2 ^ 23 + 1) % 2 ≡ p → (b % 2 ^ 23 + 2 ^ 23) * 2 ^ 7 * (1 + p) ≡ raised_of b
+by_parity b p e = ap (λ (z : ℕ). (b % 2 ^ 23 + 2 ^ 23) * 2 ^ 7 * (1 + z)) (sym e)
 
-pub raised-even : (b : ℕ) → b * 256 % 2 ^ 32 / 2 ^ 31 ≡ 0 → bit_or (b * 512 % 2 ^ 32 / 2) (2 ^ 31) ≡ raisedOf b
-raised-even b h = or_shifted_r 1 31 (b * 512 % 2 ^ 32 / 2) (omega arith) ∙ twice b ∙ by-parity b 1 (odd b h)
+pub raised_even : (b : ℕ) → b * 256 % 2 ^ 32 / 2 ^ 31 ≡ 0 → bit_or (b * 512 % 2 ^ 32 / 2) (2 ^ 31) ≡ raised_of b
+raised_even b h = or_shifted_r 1 31 (b * 512 % 2 ^ 32 / 2) (omega arith) ∙ twice b ∙ by_parity b 1 (odd b h)
   where
     twice : (b : ℕ) → 1 * 2 ^ 31 + b * 512 % 2 ^ 32 / 2 ≡ (b % 2 ^ 23 + 2 ^ 23) * 2 ^ 7 * (1 + 1)
     twice b = omega arith
@@ -23,8 +23,8 @@ raised-even b h = or_shifted_r 1 31 (b * 512 % 2 ^ 32 / 2) (omega arith) ∙ twi
     odd : (b : ℕ) → b * 256 % 2 ^ 32 / 2 ^ 31 ≡ 0 → (b / 2 ^ 23 + 1) % 2 ≡ 1
     odd b h = omega arith
 
-pub raised-odd : (b : ℕ) → (b * 256 % 2 ^ 32 / 2 ^ 31 ≡ 0 → ⊥) → bit_or (b * 512 % 2 ^ 32 / 4) (2 ^ 30) ≡ raisedOf b
-raised-odd b h = or_shifted_r 1 30 (b * 512 % 2 ^ 32 / 4) (omega arith) ∙ once b ∙ by-parity b 0 (even b h)
+pub raised_odd : (b : ℕ) → (b * 256 % 2 ^ 32 / 2 ^ 31 ≡ 0 → ⊥) → bit_or (b * 512 % 2 ^ 32 / 4) (2 ^ 30) ≡ raised_of b
+raised_odd b h = or_shifted_r 1 30 (b * 512 % 2 ^ 32 / 4) (omega arith) ∙ once b ∙ by_parity b 0 (even b h)
   where
     once : (b : ℕ) → 1 * 2 ^ 30 + b * 512 % 2 ^ 32 / 4 ≡ (b % 2 ^ 23 + 2 ^ 23) * 2 ^ 7 * (1 + 0)
     once b = omega arith
@@ -32,8 +32,8 @@ raised-odd b h = or_shifted_r 1 30 (b * 512 % 2 ^ 32 / 4) (omega arith) ∙ once
     even : (b : ℕ) → (b * 256 % 2 ^ 32 / 2 ^ 31 ≡ 0 → ⊥) → (b / 2 ^ 23 + 1) % 2 ≡ 0
     even b h = omega arith
 
-raised-small : (b : ℕ) → raisedOf b < 2 ^ 32
-raised-small b = lt_of_le_of_lt (mul-le-mul {n₁ = (b % 2 ^ 23 + 2 ^ 23) * 2 ^ 7} {n₂ = 2 ^ 31 - 2 ^ 7} {m₂ = 2} (digits b) (bit b)) (lit< tt)
+raised_small : (b : ℕ) → raised_of b < 2 ^ 32
+raised_small b = lt_of_le_of_lt (mul-le-mul {n₁ = (b % 2 ^ 23 + 2 ^ 23) * 2 ^ 7} {n₂ = 2 ^ 31 - 2 ^ 7} {m₂ = 2} (digits b) (bit b)) (lit< tt)
   where
     digits : (b : ℕ) → (b % 2 ^ 23 + 2 ^ 23) * 2 ^ 7 ≤ 2 ^ 31 - 2 ^ 7
     digits b = omega arith
@@ -42,27 +42,27 @@ raised-small b = lt_of_le_of_lt (mul-le-mul {n₁ = (b % 2 ^ 23 + 2 ^ 23) * 2 ^ 
     bit b = omega arith
 
 -- ---- the whole root is that of 2 ^ 18 times it, of 25 digits
-pub lane-raised : (b : ℕ) → Lane (raisedOf b * 2 ^ 18) 25 0 0 (raisedOf b)
-lane-raised b = record { same = scale (raisedOf b); fits = raised-small b; less = zero-le; room = lit≤ tt }
+pub lane_raised : (b : ℕ) → Lane (raised_of b * 2 ^ 18) 25 0 0 (raised_of b)
+lane_raised b = record { same = scale (raised_of b); fits = raised_small b; less = zero-le; room = lit≤ tt }
   where
     scale : (x : ℕ) → ((0 + 0 * 0) * 2 ^ 32 + x) * 4 ^ 25 ≡ x * 2 ^ 18 * 2 ^ 32
     scale x = omega arith
 
-pub raised-root : (b : ℕ) → wholeRoot (raisedOf b * 2 ^ 18) < 2 ^ 25
-raised-root b = sq-cancel (wholeRoot (raisedOf b * 2 ^ 18)) (2 ^ 25) (lt_of_le_of_lt (whole_is (raisedOf b * 2 ^ 18)).low (room (raisedOf b) (raised-small b)))
+pub raised_root : (b : ℕ) → whole_root (raised_of b * 2 ^ 18) < 2 ^ 25
+raised_root b = sq_cancel (whole_root (raised_of b * 2 ^ 18)) (2 ^ 25) (lt_of_le_of_lt (whole_is (raised_of b * 2 ^ 18)).low (room (raised_of b) (raised_small b)))
   where
     room : (x : ℕ) → x < 2 ^ 32 → x * 2 ^ 18 < 2 ^ 25 * 2 ^ 25
     room x h = omega arith
 
 -- ---- from the whole root r to the root
 -- the bits that are packed
-abbrev pub packedOf : ℕ → ℕ → ℕ
-packedOf b r = (b / 2 ^ 23 + 125) / 2 * 2 ^ 23 % 2 ^ 32 + (r + 1) / 2
+abbrev pub packed_of : ℕ → ℕ → ℕ
+packed_of b r = (b / 2 ^ 23 + 125) / 2 * 2 ^ 23 % 2 ^ 32 + (r + 1) / 2
 
-pub packed-small : (b r : ℕ) → b < 0x7f80_0000 → r < 2 ^ 25 → packedOf b r < 0x7f80_0000
-packed-small b r h l = omega arith
+pub packed_small : (b r : ℕ) → b < 0x7f80_0000 → r < 2 ^ 25 → packed_of b r < 0x7f80_0000
+packed_small b r h l = omega arith
 
-module _ (b r : ℕ) (most : b < 0x7f80_0000) (least : 2 ^ 23 ≤ b) (e : r ≡ wholeRoot (raisedOf b * 2 ^ 18)) where
+module _ (b r : ℕ) (most : b < 0x7f80_0000) (least : 2 ^ 23 ≤ b) (e : r ≡ whole_root (raised_of b * 2 ^ 18)) where
   lifted : Lifted (b % 2 ^ 23 + 2 ^ 23) (b / 2 ^ 23 - 1) ((b % 2 ^ 23 + 2 ^ 23) * 33554432 * (1 + (b / 2 ^ 23 - 1) % 2)) ((b / 2 ^ 23 - 1) / 2 + 63)
   lifted = done (b % 2 ^ 23 + 2 ^ 23) (b / 2 ^ 23 - 1) _ _ (many b ((b / 2 ^ 23 - 1) % 2)) (start (b % 2 ^ 23 + 2 ^ 23) (b / 2 ^ 23 - 1) (digits b) (field b most))
     where
@@ -81,7 +81,7 @@ module _ (b r : ℕ) (most : b < 0x7f80_0000) (least : 2 ^ 23 ≤ b) (e : r ≡ 
           low : (b : ℕ) → 2 ^ 48 ≤ (b % 2 ^ 23 + 2 ^ 23) * 33554432 * 1
           low b = omega arith
 
-  same : raisedOf b * 2 ^ 18 ≡ (b % 2 ^ 23 + 2 ^ 23) * 33554432 * (1 + (b / 2 ^ 23 - 1) % 2)
+  same : raised_of b * 2 ^ 18 ≡ (b % 2 ^ 23 + 2 ^ 23) * 33554432 * (1 + (b / 2 ^ 23 - 1) % 2)
   same = ap (λ (z : ℕ). (b % 2 ^ 23 + 2 ^ 23) * 2 ^ 7 * (1 + z) * 2 ^ 18) (parity b least) ∙ move b (1 + (b / 2 ^ 23 - 1) % 2)
     where
       parity : (b : ℕ) → 2 ^ 23 ≤ b → (b / 2 ^ 23 + 1) % 2 ≡ (b / 2 ^ 23 - 1) % 2
@@ -91,9 +91,9 @@ module _ (b r : ℕ) (most : b < 0x7f80_0000) (least : 2 ^ 23 ≤ b) (e : r ≡ 
       move b t = omega arith
 
   root : IsRoot ((b % 2 ^ 23 + 2 ^ 23) * 33554432 * (1 + (b / 2 ^ 23 - 1) % 2)) r
-  root = subst (IsRoot ((b % 2 ^ 23 + 2 ^ 23) * 33554432 * (1 + (b / 2 ^ 23 - 1) % 2))) (sym (e ∙ ap wholeRoot same)) (whole_is ((b % 2 ^ 23 + 2 ^ 23) * 33554432 * (1 + (b / 2 ^ 23 - 1) % 2)))
+  root = subst (IsRoot ((b % 2 ^ 23 + 2 ^ 23) * 33554432 * (1 + (b / 2 ^ 23 - 1) % 2))) (sym (e ∙ ap whole_root same)) (whole_is ((b % 2 ^ 23 + 2 ^ 23) * 33554432 * (1 + (b / 2 ^ 23 - 1) % 2)))
 
-  high : packedOf b r ≡ ((b / 2 ^ 23 - 1) / 2 + 63) * 8388608 + (r + 1) / 2
+  high : packed_of b r ≡ ((b / 2 ^ 23 - 1) / 2 + 63) * 8388608 + (r + 1) / 2
   high = ap (λ (z : ℕ). z * 2 ^ 23 % 2 ^ 32 + (r + 1) / 2) (halved (b / 2 ^ 23) (some b least)) ∙ ap (λ (z : ℕ). z + (r + 1) / 2) (fit ((b / 2 ^ 23 - 1) / 2) (few b most))
     where
       some : (b : ℕ) → 2 ^ 23 ≤ b → 1 ≤ b / 2 ^ 23
@@ -108,8 +108,8 @@ module _ (b r : ℕ) (most : b < 0x7f80_0000) (least : 2 ^ 23 ≤ b) (e : r ≡ 
       fit : (k : ℕ) → k ≤ 127 → (k + 63) * 2 ^ 23 % 2 ^ 32 ≡ (k + 63) * 8388608
       fit k h = omega arith
 
-  pub root-packed : of_bits binary32 (packedOf b r) ≡ rootOf (of_bits binary32 b)
-  root-packed = ap (of_bits binary32) high ∙ (root-bits _ _ _ _ r lifted root).0 ∙ sym (root-high b most (field b least))
+  pub root_packed : of_bits binary32 (packed_of b r) ≡ root_of (of_bits binary32 b)
+  root_packed = ap (of_bits binary32) high ∙ (root_bits _ _ _ _ r lifted root).0 ∙ sym (root_high b most (field b least))
     where
       field : (b : ℕ) → 2 ^ 23 ≤ b → 0 < b / 8388608
       field b h = omega arith

@@ -4,7 +4,7 @@ use Rattle.std.specs.Float.{binary32}
 use Rattle.std.specs.Float.Ieee.{div}
 use Rattle.bands.specs.Power.{chain, products}
 use Rattle.bands.specs.Bands.{at_of}
-use Rattle.bands.specs.Views.{start_of, exponentOf, finished, secondRow}
+use Rattle.bands.specs.Views.{start_of, exponent_of, finished, second_row}
 
 -- ---- one chain, and the power by it
 -- the 33 numbers from `at` on are a chain from a number between 2 ^ 31 and 2 ^ 32
@@ -17,7 +17,7 @@ pub record Links (l : List ℕ) (at : ℕ) : Type 0 where
 -- the 34 numbers from `at` on are what P needs of q: its exponent and its chain
 pub record Holds (l : List ℕ) (at : ℕ) (q : Float) : Type 0 where
   pub inside : at + 34 ≤ length l
-  pub e : slice_index_or l at 0 ≡ exponentOf q
+  pub e : slice_index_or l at 0 ≡ exponent_of q
   pub each : (j : ℕ) → j < 33 → slice_index l (at + 1 + j) ≡ chain (start_of q) j
 
 -- l has an exponent and a chain there
@@ -26,21 +26,21 @@ pub record Ready (l : List ℕ) (at : ℕ) : Type 0 where
   pub links : Links l (at + 1)
 
 -- the power at n by the exponent and the chain that stand in l at `at`
-abbrev pub powerIn : List ℕ → ℕ → ℕ → Float
-powerIn l at n = finished (slice_index l at) n (secondRow (slice_index l at) n (products (slice_index l (at + 1)) n (2 ^ 30) 32))
+abbrev pub power_in : List ℕ → ℕ → ℕ → Float
+power_in l at n = finished (slice_index l at) n (second_row (slice_index l at) n (products (slice_index l (at + 1)) n (2 ^ 30) 32))
 
 -- ---- the ratios of three channels
 -- the ratio of band i + 1 to band i
-abbrev pub ratioAt : (ℕ → Float) → ℕ → Float
-ratioAt bs i = div binary32 (bs (i + 1)) (bs i)
+abbrev pub ratio_at : (ℕ → Float) → ℕ → Float
+ratio_at bs i = div binary32 (bs (i + 1)) (bs i)
 
 -- ratio p of three channels: those of the first two bands, then those of the next two
-abbrev pub ratioOf : List Float → ℕ → Float
-ratioOf bs p = ratioAt (at_of bs) (p % 3 * 16 + p / 3)
+abbrev pub ratio_of : List Float → ℕ → Float
+ratio_of bs p = ratio_at (at_of bs) (p % 3 * 16 + p / 3)
 
 -- what P needs of the ratios of n bands of each channel
 pub record Held (bs : List Float) (n : ℕ) (l : List ℕ) : Type 0 where
-  pub each : (p : ℕ) → p / 3 + 1 < n → Holds l (p * 34) (ratioOf bs p)
+  pub each : (p : ℕ) → p / 3 + 1 < n → Holds l (p * 34) (ratio_of bs p)
 
 -- ---- the table as it is filled: first the exponents, then eight chains at a time
 -- a table of chains from 2 ^ 31
@@ -50,7 +50,7 @@ pub record Blank (l : List ℕ) : Type 0 where
 
 -- where the chain of ratio m starts; 2 ^ 31 where there is none
 abbrev pub start_at : List Float → ℕ → ℕ → ℕ
-start_at bs n m = cond (nat_lt (m / 3 + 1) n) (start_of (ratioOf bs m)) (2 ^ 31)
+start_at bs n m = cond (nat_lt (m / 3 + 1) n) (start_of (ratio_of bs m)) (2 ^ 31)
 
 -- the place of one of 48 ratios
 pub record Room (a : ℕ) : Type 0 where
@@ -74,10 +74,10 @@ pub record Among (n : ℕ) (at : List ℕ) (m : ℕ) : Type 0 where
 pub record Started (bs : List Float) (n : ℕ) (l : List ℕ) (c : ℕ) (at s : List ℕ) : Type 0 where
   pub long : length l ≡ 1632
   pub few : c ≤ 45
-  pub exponents : (m : ℕ) → m / 3 + 1 < n → slice_index l (m * 34) ≡ exponentOf (ratioOf bs m)
+  pub exponents : (m : ℕ) → m / 3 + 1 < n → slice_index l (m * 34) ≡ exponent_of (ratio_of bs m)
   pub numbers : (m j : ℕ) → m / 3 + 1 < n → j < 33 → slice_index l (m * 34 + 1 + j) ≡ 2 ^ 31
   pub entries : (k : ℕ) → k < 48 → Entry bs n (slice_index at k) (slice_index s k)
-  pub chosen : (m : ℕ) → m / 3 + 1 < n → (start_of (ratioOf bs m) ≡ 2 ^ 31) ⊎ Among c at m
+  pub chosen : (m : ℕ) → m / 3 + 1 < n → (start_of (ratio_of bs m) ≡ 2 ^ 31) ⊎ Among c at m
 
 -- ---- eight of those places
 -- r is the eight of l from p on

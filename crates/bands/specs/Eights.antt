@@ -2,7 +2,7 @@
 use Rattle.std.specs.Prelude.{◌≡◌, ℕ, ◌+◌, ◌-◌, ◌*◌, ◌/◌, ◌%◌, ◌^◌, ◌<◌, ◌≤◌, min, List, length, slice_index, to_bits, Float}
 use Rattle.std.specs.Float.{binary32}
 use Rattle.std.specs.Float.Ieee.{add, mul}
-use Rattle.bands.specs.Root.{wholeRoot}
+use Rattle.bands.specs.Root.{whole_root}
 use Rattle.bands.specs.Distance.{share_of}
 use Rattle.bands.specs.Views.{Down}
 
@@ -35,13 +35,13 @@ pub record Turned (root rem left root' rem' left' : List ℕ) : Type 0 where
 
 -- of whichever numbers they are, r are the roots, and m is what is beyond their squares
 pub record Ended (n : ℕ) (root rem left r m : List ℕ) : Type 0 where
-  pub is : (N : ℕ → ℕ) → Lanes N n root rem left → (i : ℕ) → i < 8 → slice_index r i ≡ wholeRoot (N i)
+  pub is : (N : ℕ → ℕ) → Lanes N n root rem left → (i : ℕ) → i < 8 → slice_index r i ≡ whole_root (N i)
   pub sum : (N : ℕ → ℕ) → Lanes N n root rem left → (i : ℕ) → i < 8 → slice_index m i + slice_index r i * slice_index r i ≡ N i
 
 -- ---- eight distances
 -- the digits of a normal float with the bits b, moved up to the top of 32: one place less where the exponent's field is odd
-abbrev pub raisedOf : ℕ → ℕ
-raisedOf b = (b % 2 ^ 23 + 2 ^ 23) * 2 ^ 7 * (1 + (b / 2 ^ 23 + 1) % 2)
+abbrev pub raised_of : ℕ → ℕ
+raised_of b = (b % 2 ^ 23 + 2 ^ 23) * 2 ^ 7 * (1 + (b / 2 ^ 23 + 1) % 2)
 
 -- a row of a grid, and the first of eight columns
 pub record Inside (x y right bottom : ℕ) : Type 0 where
@@ -50,21 +50,21 @@ pub record Inside (x y right bottom : ℕ) : Type 0 where
   pub not_wider : right ≤ 256
   pub low : y ≤ bottom
   pub high : 0 < bottom
-  pub not-higher : bottom ≤ 256
+  pub not_higher : bottom ≤ 256
 
 -- what the distance is the root of
 abbrev pub sum_of : ℕ → ℕ → ℕ → ℕ → Float
 sum_of x y right bottom = add binary32 (mul binary32 (share_of x right) (share_of x right)) (mul binary32 (share_of y bottom) (share_of y bottom))
 
 -- the bits of that, in eight columns from x on, the last column again past the end
-abbrev pub sumBits : ℕ → ℕ → ℕ → ℕ → ℕ → ℕ
-sumBits x y right bottom i = to_bits binary32 (sum_of (min (x + i) right) y right bottom)
+abbrev pub sum_bits : ℕ → ℕ → ℕ → ℕ → ℕ → ℕ
+sum_bits x y right bottom i = to_bits binary32 (sum_of (min (x + i) right) y right bottom)
 
 -- those bits, and their digits moved up
 pub record Squared (x y right bottom : ℕ) (bits up : List ℕ) : Type 0 where
   pub long : length up ≡ 8
-  pub low : (i : ℕ) → i < 8 → slice_index bits i ≡ sumBits x y right bottom i
-  pub high : (i : ℕ) → i < 8 → slice_index up i ≡ raisedOf (sumBits x y right bottom i)
+  pub low : (i : ℕ) → i < 8 → slice_index bits i ≡ sum_bits x y right bottom i
+  pub high : (i : ℕ) → i < 8 → slice_index up i ≡ raised_of (sum_bits x y right bottom i)
 
 -- ---- eight chains
 -- number j of each: from 2 ^ 31 up, and less than 2 ^ (31 - j) beyond it
@@ -85,4 +85,4 @@ pub record Less (v a d r : ℕ) : Type 0 where
 
 -- r is the next number of each
 pub record Next (l r : List ℕ) : Type 0 where
-  pub each : (i : ℕ) → i < 8 → slice_index r i ≡ wholeRoot (slice_index l i * 2 ^ 31)
+  pub each : (i : ℕ) → i < 8 → slice_index r i ≡ whole_root (slice_index l i * 2 ^ 31)

@@ -1,7 +1,7 @@
 // The chains of the own power, eight side by side: each next number is the whole root of (last * 2^31). Number j of a chain is from 2^31
 // up and less than 2^(31 - j) beyond it, so the first digits of the root that follows are known: a 1, and j + 1 zeros.
 ghost use Rattle.std.specs.Prelude.{◌≡◌, ◌+◌, ◌*◌, ◌^◌, ◌<◌, ◌≤◌};
-ghost use Rattle.bands.specs.Root.{wholeRoot};
+ghost use Rattle.bands.specs.Root.{whole_root};
 ghost use Rattle.bands.specs.Eights.{Near, Nearly, Less, Next};
 
 use crate::lanes::{Eight, digit, digits_eight};
@@ -37,7 +37,7 @@ fn less(a: u32, d: u32, r: u32) -> u32
 // than 32 digits if it were brought down, so it is only doubled, and what the squares of the digits take from it is left to the compares.
 fn last_three(r: u32, m: u32) -> u32
     requires { (r < 2 ^ 29) × (m ≤ 2 * r) }
-    ensures { result ≡ wholeRoot ((m + r * r) * 64) }
+    ensures { result ≡ whole_root ((m + r * r) * 64) }
 {
     let x = digit(r, m);
     let a = less(m, x, r) << 1;
@@ -67,7 +67,7 @@ fn by_digits(last: [u32; 8], j: usize) -> [u32; 8]
 // The next number of a chain near its end: of 2^31 + k, k below 2^16, it is 2^31 + (k - 1) / 2, downward.
 fn half(last: u32) -> u32
     requires { (2 ^ 31 ≤ last) × (last < 2 ^ 31 + 2 ^ 16) }
-    ensures { result ≡ wholeRoot (last * 2 ^ 31) }
+    ensures { result ≡ whole_root (last * 2 ^ 31) }
 {
     let k = last - 2147483648;
     if k > 0 {

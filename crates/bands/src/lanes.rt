@@ -1,8 +1,8 @@
 // Eight roots side by side: what is done in one lane is done in all, so that the compiler makes vector code of it.
 ghost use Rattle.std.specs.Prelude.{◌≡◌, ◌-◌, ◌*◌, ◌^◌, ◌<◌, ◌≤◌, if◌then◌else◌, from_bits, nat_lt};
 ghost use Rattle.std.specs.Float.{binary32};
-ghost use Rattle.bands.specs.Root.{wholeRoot, rootOf};
-ghost use Rattle.bands.specs.Eights.{Turning, Turned, Begun, Ended, raisedOf};
+ghost use Rattle.bands.specs.Root.{whole_root, root_of};
+ghost use Rattle.bands.specs.Eights.{Turning, Turned, Begun, Ended, raised_of};
 
 // a less t and 1, where t is below a. The compare is that of signed numbers, for which there is a vector form.
 fn over(t: u32, a: u32) -> u32
@@ -70,7 +70,7 @@ pub(crate) fn digits_eight(root: [u32; 8], rem: [u32; 8], left: [u32; 8], n: usi
 // The digits of the normal float with the bits b, moved up so that 2^18 times that has 49 or 50: the whole root of it is the root's digits
 // and one more. The two forms differ by a place, and no shift by a variable is needed.
 pub(crate) fn raised(b: u32) -> u32
-    ensures { result ≡ raisedOf b }
+    ensures { result ≡ raised_of b }
 {
     if (b << 8) >> 31 == 0 {
         ((b << 9) >> 1) | 2147483648
@@ -82,7 +82,7 @@ pub(crate) fn raised(b: u32) -> u32
 // The rounded root of the normal float with the bits b, from that whole root. For other bits it is some float.
 pub(crate) fn packed(b: u32, root: u32) -> f32
     requires { (b < 0x7f80_0000) × (root < 2 ^ 25) }
-    ensures { 2 ^ 23 ≤ b → root ≡ wholeRoot (raisedOf b * 2 ^ 18) → result ≡ rootOf (from_bits binary32 b) }
+    ensures { 2 ^ 23 ≤ b → root ≡ whole_root (raised_of b * 2 ^ 18) → result ≡ root_of (from_bits binary32 b) }
 {
     f32::from_bits(((((b >> 23) + 125) >> 1) << 23) + ((root + 1) >> 1))
 }

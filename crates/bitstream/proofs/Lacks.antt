@@ -1,5 +1,5 @@
--- Document 02's ticket 2: how many bits a field lacks. SHORT's number is at least 1 and at most the field's width (`lacks-within`). With so many bits more, whatever they are, the
--- field is read (`lacks-filled`); with fewer it is SHORT again, and lacks the rest (`lacks-fewer`): with one fewer, 1. More bits stand behind the last one that was there or,
+-- Document 02's ticket 2: how many bits a field lacks. SHORT's number is at least 1 and at most the field's width (`lacks_within`). With so many bits more, whatever they are, the
+-- field is read (`lacks_filled`); with fewer it is SHORT again, and lacks the rest (`lacks_fewer`): with one fewer, 1. More bits stand behind the last one that was there or,
 -- where the field starts past it, from the field's first bit on. `read-..`: the same of a header with more bytes behind it.
 use mathlib.Core.Path.{◌≡◌, refl, ap, ◌∙◌, subst⁻¹}
 use mathlib.Core.List.{List, ◌++◌}
@@ -8,36 +8,36 @@ use native.Mathlib.Nat.{sub-eq-zero_of_le, sub-pos_iff_lt, max-eq_left, max-eq_r
 use native.Mathlib.Omega.{arith}
 use native.Mathlib.Decide.{dec_lt}
 use lib.ListN.{length, length-append, get_or-append}
-use Rattle.bitstream.specs.Bits.{bitCount, bit_at, field, lacking, readUpTo, readBits}
+use Rattle.bitstream.specs.Bits.{bit_count, bit_at, field, lacking, read_up_to, read_bits}
 use Rattle.bitstream.specs.declared.Bits.TheVariants.{Value, Short}
-use Rattle.bitstream.proofs.Laws.{up-to-in, up-to-past, up-to-value, up-to-short}
+use Rattle.bitstream.proofs.Laws.{up_to_in, up_to_past, up_to_value, up_to_short}
 
-module _ (b : List ℕ) (end p n l : ℕ) (e : readUpTo b end p n ≡ Short l) where
-  pub lacks-within : (1 ≤ l) × (l ≤ n)
-  lacks-within = let (is, some) = up-to-short b end p n l e in (some, omega (arith, is))
+module _ (b : List ℕ) (end p n l : ℕ) (e : read_up_to b end p n ≡ Short l) where
+  pub lacks_within : (1 ≤ l) × (l ≤ n)
+  lacks_within = let (is, some) = up_to_short b end p n l e in (some, omega (arith, is))
 
   -- m bits more, in whatever string
   module _ (c : List ℕ) (m : ℕ) where
-    pub lacks-filled : l ≤ m → readUpTo c (max p end + m) p n ≡ Value (field c p n) (p + n)
-    lacks-filled h = let (is, some) = up-to-short b end p n l e in up-to-in c (max p end + m) p n (omega (arith, is))
+    pub lacks_filled : l ≤ m → read_up_to c (max p end + m) p n ≡ Value (field c p n) (p + n)
+    lacks_filled h = let (is, some) = up_to_short b end p n l e in up_to_in c (max p end + m) p n (omega (arith, is))
 
-    pub lacks-fewer : m < l → readUpTo c (max p end + m) p n ≡ Short (l - m)
-    lacks-fewer h =
-        let (is, some) = up-to-short b end p n l e in
+    pub lacks_fewer : m < l → read_up_to c (max p end + m) p n ≡ Short (l - m)
+    lacks_fewer h =
+        let (is, some) = up_to_short b end p n l e in
         let left : lacking (max p end + m) p n ≡ l - m = omega (arith, is) in
-        up-to-past c (max p end + m) p n (omega (arith, left)) ∙ ap Short left
+        up_to_past c (max p end + m) p n (omega (arith, left)) ∙ ap Short left
 
-pub read-within : (b : List ℕ) (p n l : ℕ) → readBits b p n ≡ Short l → (1 ≤ l) × (l ≤ n)
-unfolding readBits
-read-within b p n l e = lacks-within b (bitCount b) p n l e
+pub read_within : (b : List ℕ) (p n l : ℕ) → read_bits b p n ≡ Short l → (1 ≤ l) × (l ≤ n)
+unfolding read_bits
+read_within b p n l e = lacks_within b (bit_count b) p n l e
 
 -- a field that is there stays, whatever follows
-field-kept : (b d : List ℕ) (p n : ℕ) → n ≤ 8 * length b - p → field (b ++ d) p n ≡ field b p n
+field_kept : (b d : List ℕ) (p n : ℕ) → n ≤ 8 * length b - p → field (b ++ d) p n ≡ field b p n
 unfolding field
-field-kept b d p zero h = refl
-field-kept b d p (suc n) h =
+field_kept b d p zero h = refl
+field_kept b d p (suc n) h =
     let first : bit_at (b ++ d) p ≡ bit_at b p = ap (λ (x : ℕ). x / 2 ^ (p % 8) % 2) (get_or-append b d 0 (p / 8) (omega arith)) in
-    rw (first, field-kept b d (p + 1) n (omega arith))
+    rw (first, field_kept b d (p + 1) n (omega arith))
 
 -- where more bits are there, so many fewer lack
 fewer : (end later p n l : ℕ) → end ≤ later → lacking end p n ≡ l → lacking later p n ≡ l - (later - max p end)
@@ -54,25 +54,25 @@ fewer end later p n l h e = go (dec_lt p end)
     go (no i) = rw (max-eq_left {n = p} {m = end} (omega arith)) (outside (omega arith))
 
 module _ (b d : List ℕ) (p n : ℕ) where
-  longer : bitCount b ≤ bitCount (b ++ d)
+  longer : bit_count b ≤ bit_count (b ++ d)
   longer = omega (arith, length-append b d)
 
-  pub read_kept : (v q : ℕ) → readBits b p n ≡ Value v q → readBits (b ++ d) p n ≡ Value v q
-  unfolding readBits
+  pub read_kept : (v q : ℕ) → read_bits b p n ≡ Value v q → read_bits (b ++ d) p n ≡ Value v q
+  unfolding read_bits
   read_kept v q e =
-      let (none, is, next) = up-to-value b (bitCount b) p n v q e in
-      rw (is, next) (up-to-in (b ++ d) (bitCount (b ++ d)) p n (omega (arith, none, longer)) ∙ ap (λ (x : ℕ). Value x (p + n)) (field-kept b d p n (omega (arith, none))))
+      let (none, is, next) = up_to_value b (bit_count b) p n v q e in
+      rw (is, next) (up_to_in (b ++ d) (bit_count (b ++ d)) p n (omega (arith, none, longer)) ∙ ap (λ (x : ℕ). Value x (p + n)) (field_kept b d p n (omega (arith, none))))
 
-  module _ (l : ℕ) (e : readBits b p n ≡ Short l) where
-    pub read-fewer : bitCount (b ++ d) - max p (bitCount b) < l → readBits (b ++ d) p n ≡ Short (l - (bitCount (b ++ d) - max p (bitCount b)))
-    unfolding readBits
-    read-fewer h =
-        let (is, some) = up-to-short b (bitCount b) p n l e in
-        let left = fewer (bitCount b) (bitCount (b ++ d)) p n l longer is in
-        up-to-past (b ++ d) (bitCount (b ++ d)) p n (subst⁻¹ (λ (m : ℕ). 0 < m) left (sub-pos_iff_lt.1 h)) ∙ ap Short left
+  module _ (l : ℕ) (e : read_bits b p n ≡ Short l) where
+    pub read_fewer : bit_count (b ++ d) - max p (bit_count b) < l → read_bits (b ++ d) p n ≡ Short (l - (bit_count (b ++ d) - max p (bit_count b)))
+    unfolding read_bits
+    read_fewer h =
+        let (is, some) = up_to_short b (bit_count b) p n l e in
+        let left = fewer (bit_count b) (bit_count (b ++ d)) p n l longer is in
+        up_to_past (b ++ d) (bit_count (b ++ d)) p n (subst⁻¹ (λ (m : ℕ). 0 < m) left (sub-pos_iff_lt.1 h)) ∙ ap Short left
 
-    pub read-filled : l ≤ bitCount (b ++ d) - max p (bitCount b) → readBits (b ++ d) p n ≡ Value (field (b ++ d) p n) (p + n)
-    unfolding readBits
-    read-filled h =
-        let (is, some) = up-to-short b (bitCount b) p n l e in
-        up-to-in (b ++ d) (bitCount (b ++ d)) p n (fewer (bitCount b) (bitCount (b ++ d)) p n l longer is ∙ sub-eq-zero_of_le h)
+    pub read_filled : l ≤ bit_count (b ++ d) - max p (bit_count b) → read_bits (b ++ d) p n ≡ Value (field (b ++ d) p n) (p + n)
+    unfolding read_bits
+    read_filled h =
+        let (is, some) = up_to_short b (bit_count b) p n l e in
+        up_to_in (b ++ d) (bit_count (b ++ d)) p n (fewer (bit_count b) (bit_count (b ++ d)) p n l longer is ∙ sub-eq-zero_of_le h)

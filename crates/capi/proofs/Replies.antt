@@ -21,25 +21,25 @@ filled (x ∷ y ∷ z ∷ w ∷ s) h a b c = absurd (omega arith)
 
 module _ (reply said : List ℕ) where
   module _ (other : length reply ≡ 3 → ⊥) where
-    pub returned-other : 1 ≡ returned reply said
-    returned-other = sym (ap (λ (t : Bool). cond t (number_of said) 1) (ne_eqb (length reply) 3 other))
+    pub returned_other : 1 ≡ returned reply said
+    returned_other = sym (ap (λ (t : Bool). cond t (number_of said) 1) (ne_eqb (length reply) 3 other))
 
-    pub held-other : reply ≡ held reply said
-    held-other = sym (ap (λ (t : Bool). cond t (values_of said) reply) (ne_eqb (length reply) 3 other))
+    pub held_other : reply ≡ held reply said
+    held_other = sym (ap (λ (t : Bool). cond t (values_of said) reply) (ne_eqb (length reply) 3 other))
 
   module _ (s : Said) (is : s ≡ said_of said) (right : length reply ≡ 3) where
-    pub returned-said : s.no ≡ returned reply said
-    returned-said =
+    pub returned_said : s.no ≡ returned reply said
+    returned_said =
         ap (λ (t : Said). t.no) is ∙ sym (ap (λ (t : Bool). cond t (number_of said) 1) (eq-eqb (length reply) 3 right))
 
-    pub held-said : s.first ∷ s.second ∷ s.third ∷ [] ≡ held reply said
-    held-said =
+    pub held_said : s.first ∷ s.second ∷ s.third ∷ [] ≡ held reply said
+    held_said =
         ap (λ (t : Said). t.first ∷ t.second ∷ t.third ∷ []) is
         ∙ sym (ap (λ (t : Bool). cond t (values_of said) reply) (eq-eqb (length reply) 3 right))
 
 module _ {A : Type 0} (reply : List ℕ) (new old : List A) where
-  pub kept-other : (length reply ≡ 3 → ⊥) → old ≡ kept reply new old
-  kept-other other = sym (ap (λ (t : Bool). cond t new old) (ne_eqb (length reply) 3 other))
+  pub kept_other : (length reply ≡ 3 → ⊥) → old ≡ kept reply new old
+  kept_other other = sym (ap (λ (t : Bool). cond t new old) (ne_eqb (length reply) 3 other))
 
-  pub kept-right : length reply ≡ 3 → new ≡ kept reply new old
-  kept-right right = sym (ap (λ (t : Bool). cond t new old) (eq-eqb (length reply) 3 right))
+  pub kept_right : length reply ≡ 3 → new ≡ kept reply new old
+  kept_right right = sym (ap (λ (t : Bool). cond t new old) (eq-eqb (length reply) 3 right))

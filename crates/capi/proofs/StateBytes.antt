@@ -14,92 +14,92 @@ use Rattle.transform.proofs.Chain.{right}
 use Rattle.short_arena.specs.declared.held.State.{State}
 use Rattle.short_arena.specs.declared.arena.Answer.{Answer}
 use Rattle.short_arena.specs.declared.arena.Answer.TheVariants.{Done, Part, Lent, Held, Full, Gone}
-use Rattle.short_arena.specs.Held.{held_of, state_of, is_held, placesIn, without}
-use Rattle.short_arena.specs.Short.{lentRight, addAnswer, addState, dropAnswer, dropState, leaves}
+use Rattle.short_arena.specs.Held.{held_of, state_of, is_held, places_in, without}
+use Rattle.short_arena.specs.Short.{lent_right, add_answer, add_state, drop_answer, drop_state, leaves}
 use Rattle.short_arena.proofs.Lending.{is_right}
-use Rattle.capi.specs.Bytes.{noState, stateIn, bytes_of, addBytes, dropBytes}
-use Rattle.capi.specs.Said.{Small, putBytes}
+use Rattle.capi.specs.Bytes.{no_state, state_in, bytes_of, add_bytes, drop_bytes}
+use Rattle.capi.specs.Said.{Small, put_bytes}
 
 -- ---- by the number of bytes
 module _ (b : List ℕ) where
-  pub other-state : (length b ≡ 18 → ⊥) → noState ≡ stateIn b
-  unfolding stateIn
-  other-state h = rw (ne_eqb (length b) 18 h)
+  pub other_state : (length b ≡ 18 → ⊥) → no_state ≡ state_in b
+  unfolding state_in
+  other_state h = rw (ne_eqb (length b) 18 h)
 
-  pub right-state : length b ≡ 18 → ◌≡◌ {A = State} (record { count = get_or b 0 0; kinds = drop 1 b }) (stateIn b)
-  unfolding stateIn
-  right-state h = rw (eq-eqb (length b) 18 h)
+  pub right_state : length b ≡ 18 → ◌≡◌ {A = State} (record { count = get_or b 0 0; kinds = drop 1 b }) (state_in b)
+  unfolding state_in
+  right_state h = rw (eq-eqb (length b) 18 h)
 
-  pub other-bytes : (s : State) → (length b ≡ 18 → ⊥) → b ≡ putBytes b s
-  unfolding putBytes
-  other-bytes s h = rw (ne_eqb (length b) 18 h)
+  pub other_bytes : (s : State) → (length b ≡ 18 → ⊥) → b ≡ put_bytes b s
+  unfolding put_bytes
+  other_bytes s h = rw (ne_eqb (length b) 18 h)
 
-  pub right-bytes : (s : State) → length b ≡ 18 → bytes_of s ≡ putBytes b s
-  unfolding putBytes
-  right-bytes s h = rw (eq-eqb (length b) 18 h)
+  pub right_bytes : (s : State) → length b ≡ 18 → bytes_of s ≡ put_bytes b s
+  unfolding put_bytes
+  right_bytes s h = rw (eq-eqb (length b) 18 h)
 
 -- another number of bytes is LENT, whatever else is lent
-pub other-lent : (n : ℕ) (b : List ℕ) (k : ℕ) → (length b ≡ 18 → ⊥) → lentRight n (stateIn b) k ≡ false
-unfolding lentRight
-other-lent n b k h =
-    ap (λ (s : State). lentRight n s k) (sym (other-state b h))
+pub other_lent : (n : ℕ) (b : List ℕ) (k : ℕ) → (length b ≡ 18 → ⊥) → lent_right n (state_in b) k ≡ false
+unfolding lent_right
+other_lent n b k h =
+    ap (λ (s : State). lent_right n s k) (sym (other_state b h))
     ∙ ap (λ (x : Bool). ltb k 17 && x) (and-false (leb n 394752)) ∙ and-false (ltb k 17)
 
 -- there and back
-bytes_back : (b : List ℕ) → putBytes b (stateIn b) ≡ b
+bytes_back : (b : List ℕ) → put_bytes b (state_in b) ≡ b
 bytes_back b = go (ℕ_discrete (length b) 18)
   where
     whole : (l : List ℕ) → length l ≡ 18 → get_or l 0 0 ∷ drop 1 l ≡ l
     whole [] e = absurd (omega arith)
     whole (x ∷ l) e = refl
 
-    go : Dec (length b ≡ 18) → putBytes b (stateIn b) ≡ b
-    go (yes e) = sym (right-bytes b (stateIn b) e) ∙ ap bytes_of (sym (right-state b e)) ∙ whole b e
-    go (no h) = sym (other-bytes b (stateIn b) h)
+    go : Dec (length b ≡ 18) → put_bytes b (state_in b) ≡ b
+    go (yes e) = sym (right_bytes b (state_in b) e) ∙ ap bytes_of (sym (right_state b e)) ∙ whole b e
+    go (no h) = sym (other_bytes b (state_in b) h)
 
 -- what is put back is what the call leaves: nothing new where it refuses, or where there were no 18 bytes
-put_back : (b : List ℕ) (r : Answer) (new : State) → ((length b ≡ 18 → ⊥) → r ≡ Lent) → putBytes b (leaves r new (stateIn b)) ≡ leaves r (bytes_of (leaves r new (stateIn b))) b
+put_back : (b : List ℕ) (r : Answer) (new : State) → ((length b ≡ 18 → ⊥) → r ≡ Lent) → put_bytes b (leaves r new (state_in b)) ≡ leaves r (bytes_of (leaves r new (state_in b))) b
 put_back b r new f = go (ℕ_discrete (length b) 18)
   where
-    there : (x : Answer) → length b ≡ 18 → putBytes b (leaves x new (stateIn b)) ≡ leaves x (bytes_of (leaves x new (stateIn b))) b
-    there Done e = sym (right-bytes b new e)
-    there (Part p q) e = sym (right-bytes b new e)
+    there : (x : Answer) → length b ≡ 18 → put_bytes b (leaves x new (state_in b)) ≡ leaves x (bytes_of (leaves x new (state_in b))) b
+    there Done e = sym (right_bytes b new e)
+    there (Part p q) e = sym (right_bytes b new e)
     there Lent e = bytes_back b
     there Held e = bytes_back b
     there Full e = bytes_back b
     there Gone e = bytes_back b
 
-    go : Dec (length b ≡ 18) → putBytes b (leaves r new (stateIn b)) ≡ leaves r (bytes_of (leaves r new (stateIn b))) b
+    go : Dec (length b ≡ 18) → put_bytes b (leaves r new (state_in b)) ≡ leaves r (bytes_of (leaves r new (state_in b))) b
     go (yes e) = there r e
     go (no h) =
-        ap (λ (x : Answer). putBytes b (leaves x new (stateIn b))) (f h) ∙ bytes_back b
-        ∙ sym (ap (λ (x : Answer). leaves x (bytes_of (leaves x new (stateIn b))) b) (f h))
+        ap (λ (x : Answer). put_bytes b (leaves x new (state_in b))) (f h) ∙ bytes_back b
+        ∙ sym (ap (λ (x : Answer). leaves x (bytes_of (leaves x new (state_in b))) b) (f h))
 
 module _ (n : ℕ) (b : List ℕ) (k : ℕ) where
-  add-other : (m : ℕ) → (length b ≡ 18 → ⊥) → addAnswer n (stateIn b) k m ≡ Lent
-  unfolding addAnswer
-  add-other m h = rw (other-lent n b k h, and-false (eqb m (places_of k)))
+  add_other : (m : ℕ) → (length b ≡ 18 → ⊥) → add_answer n (state_in b) k m ≡ Lent
+  unfolding add_answer
+  add_other m h = rw (other_lent n b k h, and-false (eqb m (places_of k)))
 
-  drop-other : (length b ≡ 18 → ⊥) → dropAnswer n (stateIn b) k ≡ Lent
-  unfolding dropAnswer
-  drop-other h = rw (other-lent n b k h)
+  drop_other : (length b ≡ 18 → ⊥) → drop_answer n (state_in b) k ≡ Lent
+  unfolding drop_answer
+  drop_other h = rw (other_lent n b k h)
 
-  pub add-bytes : (m : ℕ) → putBytes b (addState n (stateIn b) k m) ≡ addBytes n b k m
-  unfolding addState
-  add-bytes m = put_back b (addAnswer n (stateIn b) k m) (state_of (held_of (stateIn b) ++ k ∷ [])) (add-other m)
+  pub add_bytes_lem : (m : ℕ) → put_bytes b (add_state n (state_in b) k m) ≡ add_bytes n b k m
+  unfolding add_state
+  add_bytes_lem m = put_back b (add_answer n (state_in b) k m) (state_of (held_of (state_in b) ++ k ∷ [])) (add_other m)
 
-  pub drop-bytes : putBytes b (dropState n (stateIn b) k) ≡ dropBytes n b k
-  unfolding dropState
-  drop-bytes = put_back b (dropAnswer n (stateIn b) k) (state_of (without (held_of (stateIn b)) k)) drop-other
+  pub drop_bytes_lem : put_bytes b (drop_state n (state_in b) k) ≡ drop_bytes n b k
+  unfolding drop_state
+  drop_bytes_lem = put_back b (drop_answer n (state_in b) k) (state_of (without (held_of (state_in b)) k)) drop_other
 
 -- 17 kinds copied into an array of zeros
 pub all_read : (ks : List ℕ) → length ks ≡ 17 → paste (replicate 17 0) 0 ks 17 ≡ ks
 all_read ks e = ap (λ (l : List ℕ). l ++ []) (take_all 17 ks (omega arith)) ∙ append-nil ks
 
 -- 17 kinds behind the first byte, and then that byte
-pub all-put : (b : List ℕ) (n : ℕ) (ks : List ℕ) → length b ≡ 18 → length ks ≡ 17 → set (paste b 1 ks 17) 0 n ≡ n ∷ ks
-all-put [] n ks e f = absurd (omega arith)
-all-put (x ∷ b) n ks e f =
+pub all_put : (b : List ℕ) (n : ℕ) (ks : List ℕ) → length b ≡ 18 → length ks ≡ 17 → set (paste b 1 ks 17) 0 n ≡ n ∷ ks
+all_put [] n ks e f = absurd (omega arith)
+all_put (x ∷ b) n ks e f =
     ap (λ (l : List ℕ). n ∷ (l ++ drop 17 b)) (take_all 17 ks (omega arith))
     ∙ ap (λ (l : List ℕ). n ∷ (ks ++ l)) (drop_of_length-le b {i = 17} (omega arith))
     ∙ ap (λ (l : List ℕ). n ∷ l) (append-nil ks)
@@ -119,10 +119,10 @@ all_take (suc n) [] f i = lit< tt
 all_take (suc n) (x ∷ l) f zero = f zero
 all_take (suc n) (x ∷ l) f (suc i) = all_take n l (λ j. f (suc j)) i
 
-all-zero : (n : ℕ) → Bytes (replicate n 0)
-all-zero zero i = lit< tt
-all-zero (suc n) zero = lit< tt
-all-zero (suc n) (suc i) = all-zero n i
+all_zero_lem : (n : ℕ) → Bytes (replicate n 0)
+all_zero_lem zero i = lit< tt
+all_zero_lem (suc n) zero = lit< tt
+all_zero_lem (suc n) (suc i) = all_zero_lem n i
 
 all_cons : (x : ℕ) (l : List ℕ) → x < 256 → Bytes l → Bytes (x ∷ l)
 all_cons x l h f zero = h
@@ -142,59 +142,59 @@ all_without (x ∷ l) k f = go (eqb x k) (all_without l k (λ j. f (suc j)))
     go false r = all_cons x (without l k) (f zero) r
 
 -- a state in bytes is small
-pub in_small : (b : List ℕ) → Bytes b → Small (stateIn b)
-unfolding stateIn
+pub in_small : (b : List ℕ) → Bytes b → Small (state_in b)
+unfolding state_in
 in_small b f = go (eqb (length b) 18)
   where
-    go : (x : Bool) → Small (cond x (record { count = get_or b 0 0; kinds = drop 1 b }) noState)
+    go : (x : Bool) → Small (cond x (record { count = get_or b 0 0; kinds = drop 1 b }) no_state)
     go true = record { count = f 0; kinds = all_rest b f }
-    go false = record { count = lit< tt; kinds = all-zero 17 }
+    go false = record { count = lit< tt; kinds = all_zero_lem 17 }
 
-of-small : (ks : List ℕ) → length ks < 256 → Bytes ks → Small (state_of ks)
-of-small ks h f = record { count = h; kinds = all_append ks (replicate (17 - length ks) 0) f (all-zero (17 - length ks)) }
+of_small : (ks : List ℕ) → length ks < 256 → Bytes ks → Small (state_of ks)
+of_small ks h f = record { count = h; kinds = all_append ks (replicate (17 - length ks) 0) f (all_zero_lem (17 - length ks)) }
 
 -- ---- the states that calls leave are small
-without-short : (l : List ℕ) (k : ℕ) → length (without l k) ≤ length l
+without_short : (l : List ℕ) (k : ℕ) → length (without l k) ≤ length l
 unfolding without
-without-short [] k = omega arith
-without-short (x ∷ l) k = go (eqb x k) (without-short l k)
+without_short [] k = omega arith
+without_short (x ∷ l) k = go (eqb x k) (without_short l k)
   where
     go : (b : Bool) → length (without l k) ≤ length l → length (cond b (without l k) (x ∷ without l k)) ≤ suc (length l)
     go true h = omega arith
     go false h = omega arith
 
 module _ (n : ℕ) (s : State) (k : ℕ) (g : Small s) where
-  pub add_small : (m : ℕ) → Small (addState n s k m)
-  unfolding addState addAnswer
-  add_small m = go (eqb m (places_of k) && lentRight n s k) (is_held (held_of s) k) (ltb (n - placesIn (held_of s)) (places_of k)) refl
+  pub add_small : (m : ℕ) → Small (add_state n s k m)
+  unfolding add_state add_answer
+  add_small m = go (eqb m (places_of k) && lent_right n s k) (is_held (held_of s) k) (ltb (n - places_in (held_of s)) (places_of k)) refl
     where
       P : Answer → Type 0
       P r = Small (leaves r (state_of (held_of s ++ k ∷ [])) s)
 
-      go : (x y z : Bool) → (eqb m (places_of k) && lentRight n s k) ≡ x → P (cond x (cond y Held (cond z Full (Part (placesIn (held_of s)) (places_of k)))) Lent)
+      go : (x y z : Bool) → (eqb m (places_of k) && lent_right n s k) ≡ x → P (cond x (cond y Held (cond z Full (Part (places_in (held_of s)) (places_of k)))) Lent)
       go true true z p = g
       go true false true p = g
       go true false false p =
-          let r = is_right n s k (right (eqb m (places_of k)) (lentRight n s k) p) in
+          let r = is_right n s k (right (eqb m (places_of k)) (lent_right n s k) p) in
           let c = r.count in
           let t = length-take s.count s.kinds in
           let l = length-append (held_of s) (k ∷ []) in
           let h = r.kind in
-          of-small (held_of s ++ k ∷ []) (omega arith) (all_append (held_of s) (k ∷ []) (all_take s.count s.kinds g.kinds) (all_cons k [] (omega arith) (all-zero 0)))
+          of_small (held_of s ++ k ∷ []) (omega arith) (all_append (held_of s) (k ∷ []) (all_take s.count s.kinds g.kinds) (all_cons k [] (omega arith) (all_zero_lem 0)))
       go false y z p = g
 
-  pub drop-small : Small (dropState n s k)
-  unfolding dropState dropAnswer
-  drop-small = go (lentRight n s k) (is_held (held_of s) k) refl
+  pub drop_small : Small (drop_state n s k)
+  unfolding drop_state drop_answer
+  drop_small = go (lent_right n s k) (is_held (held_of s) k) refl
     where
       P : Answer → Type 0
       P r = Small (leaves r (state_of (without (held_of s) k)) s)
 
-      go : (x y : Bool) → lentRight n s k ≡ x → P (cond x (cond y Done Gone) Lent)
+      go : (x y : Bool) → lent_right n s k ≡ x → P (cond x (cond y Done Gone) Lent)
       go true true p =
           let c = (is_right n s k p).count in
           let t = length-take s.count s.kinds in
-          let w = without-short (held_of s) k in
-          of-small (without (held_of s) k) (omega arith) (all_without (held_of s) k (all_take s.count s.kinds g.kinds))
+          let w = without_short (held_of s) k in
+          of_small (without (held_of s) k) (omega arith) (all_without (held_of s) k (all_take s.count s.kinds g.kinds))
       go true false p = g
       go false y p = g

@@ -14,5 +14,5 @@ pub record Small (s : State) : Type 0 where
   pub kinds : (i : ℕ) → get_or s.kinds i 0 < 256
 
 -- 18 bytes with a state put into them; another number of bytes stays as it is
-unfoldable pub putBytes : List ℕ → State → List ℕ
-putBytes bytes s = cond (eqb (length bytes) 18) (bytes_of s) bytes
+unfoldable pub put_bytes : List ℕ → State → List ℕ
+put_bytes bytes s = cond (eqb (length bytes) 18) (bytes_of s) bytes

@@ -1,6 +1,6 @@
 // Reading a header.
 ghost use Rattle.std.specs.Prelude.{◌≡◌};
-ghost use Rattle.params.specs.Header.{readHeader, replyOf};
+ghost use Rattle.params.specs.Header.{read_header, reply_of};
 ghost use Rattle.capi.specs.Reply.{returned, held, kept};
 ghost use Rattle.capi.specs.Said.{said_of};
 
@@ -8,7 +8,7 @@ use crate::reply::{Said, made, say};
 use params::Reading;
 
 fn said_reading(found: Reading) -> Said
-    ensures { result ≡ said_of (replyOf found) }
+    ensures { result ≡ said_of (reply_of found) }
 {
     match found {
         Reading::Done { next } => made(0, next, 0, 0),
@@ -29,9 +29,9 @@ pub extern "C" fn dequant_read_header(
     rows: &mut [u16],
     reply: &mut [u64],
 ) -> u32
-    ensures { (result ≡ returned reply.old (replyOf (readHeader header.now bit kind rows.old).answer))
-        × (reply.new ≡ held reply.old (replyOf (readHeader header.now bit kind rows.old).answer))
-        × (rows.new ≡ kept reply.old (readHeader header.now bit kind rows.old).rows rows.old) }
+    ensures { (result ≡ returned reply.old (reply_of (read_header header.now bit kind rows.old).answer))
+        × (reply.new ≡ held reply.old (reply_of (read_header header.now bit kind rows.old).answer))
+        × (rows.new ≡ kept reply.old (read_header header.now bit kind rows.old).rows rows.old) }
 {
     if reply.len() != 3 {
         return 1;

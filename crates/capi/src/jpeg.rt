@@ -1,7 +1,7 @@
 // Where the JPEG values of a channel stand.
 ghost use Rattle.std.specs.Prelude.{◌≡◌, cond, ◌*◌, ltb, length};
-ghost use Rattle.dequant.specs.Jpeg.{jpegAnswer};
-ghost use Rattle.capi.specs.Parts.{jpegReply};
+ghost use Rattle.dequant.specs.Jpeg.{jpeg_answer};
+ghost use Rattle.capi.specs.Parts.{jpeg_reply};
 ghost use Rattle.capi.specs.Reply.{returned, held};
 ghost use Rattle.capi.specs.Said.{said_of};
 
@@ -9,7 +9,7 @@ use crate::reply::{Said, made, say};
 use dequant::Jpeg;
 
 fn said_jpeg(found: Jpeg, first: u64) -> Said
-    ensures { result ≡ said_of (jpegReply first found) }
+    ensures { result ≡ said_of (jpeg_reply first found) }
 {
     match found {
         Jpeg::Done => made(0, first, 64, 0),
@@ -37,8 +37,8 @@ pub extern "C" fn dequant_jpeg_quant_values(
     channel: usize,
     reply: &mut [u64],
 ) -> u32
-    ensures { (result ≡ returned reply.old (jpegReply (channel * 64) (jpegAnswer rows.now (length samples.now) channel)))
-        × (reply.new ≡ held reply.old (jpegReply (channel * 64) (jpegAnswer rows.now (length samples.now) channel))) }
+    ensures { (result ≡ returned reply.old (jpeg_reply (channel * 64) (jpeg_answer rows.now (length samples.now) channel)))
+        × (reply.new ≡ held reply.old (jpeg_reply (channel * 64) (jpeg_answer rows.now (length samples.now) channel))) }
 {
     if reply.len() != 3 {
         return 1;

@@ -1,8 +1,8 @@
 // Expanding one kind.
 ghost use Rattle.std.specs.Prelude.{◌≡◌, length};
-ghost use Rattle.matrix.specs.Expanded.{expandAnswer, leaves, replyOf};
+ghost use Rattle.matrix.specs.Expanded.{expand_answer, leaves, reply_of};
 ghost use Rattle.matrix.specs.Mirror.{mirror};
-ghost use Rattle.matrix.specs.Weight.{weightsOf};
+ghost use Rattle.matrix.specs.Weight.{weights_of};
 ghost use Rattle.capi.specs.Said.{said_of};
 ghost use Rattle.capi.specs.Reply.{returned, held, kept};
 
@@ -10,7 +10,7 @@ use crate::reply::{Said, made, say};
 use matrix::Expanded;
 
 pub(crate) fn said_expanded(found: Expanded) -> Said
-    ensures { result ≡ said_of (replyOf found) }
+    ensures { result ≡ said_of (reply_of found) }
 {
     match found {
         Expanded::Done => made(0, 0, 0, 0),
@@ -40,10 +40,10 @@ pub extern "C" fn dequant_expand_kind(
     transposed: &mut [f32],
     reply: &mut [u64],
 ) -> u32
-    ensures answer { result ≡ returned reply.old (replyOf (expandAnswer kind row.now samples.now (length straight.old) (length transposed.old))) }
-    ensures reply { reply.new ≡ held reply.old (replyOf (expandAnswer kind row.now samples.now (length straight.old) (length transposed.old))) }
-    ensures straight { straight.new ≡ kept reply.old (leaves (expandAnswer kind row.now samples.now (length straight.old) (length transposed.old)) (weightsOf row.now samples.now kind) straight.old) straight.old }
-    ensures transposed { transposed.new ≡ kept reply.old (leaves (expandAnswer kind row.now samples.now (length straight.old) (length transposed.old)) (mirror kind (weightsOf row.now samples.now kind)) transposed.old) transposed.old }
+    ensures answer { result ≡ returned reply.old (reply_of (expand_answer kind row.now samples.now (length straight.old) (length transposed.old))) }
+    ensures reply { reply.new ≡ held reply.old (reply_of (expand_answer kind row.now samples.now (length straight.old) (length transposed.old))) }
+    ensures straight { straight.new ≡ kept reply.old (leaves (expand_answer kind row.now samples.now (length straight.old) (length transposed.old)) (weights_of row.now samples.now kind) straight.old) straight.old }
+    ensures transposed { transposed.new ≡ kept reply.old (leaves (expand_answer kind row.now samples.now (length straight.old) (length transposed.old)) (mirror kind (weights_of row.now samples.now kind)) transposed.old) transposed.old }
 {
     if reply.len() != 3 {
         return 1;

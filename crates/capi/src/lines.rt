@@ -1,6 +1,6 @@
 // The text record, written and read.
 ghost use Rattle.std.specs.Prelude.{◌≡◌, length};
-ghost use Rattle.record.specs.Replies.{writtenReply, writeAnswer, bufferAfter, takenReply, readAnswer, rowsAfter, samplesAfter};
+ghost use Rattle.record.specs.Replies.{written_reply, write_answer, buffer_after, taken_reply, read_answer, rows_after, samples_after};
 ghost use Rattle.capi.specs.Reply.{returned, held, kept};
 ghost use Rattle.capi.specs.Said.{said_of};
 
@@ -8,7 +8,7 @@ use crate::reply::{Said, made, say};
 use record::{Taken, Written};
 
 fn said_written(found: Written) -> Said
-    ensures { result ≡ said_of (writtenReply found) }
+    ensures { result ≡ said_of (written_reply found) }
 {
     match found {
         Written::Done { length } => made(0, length as u64, 0, 0),
@@ -19,7 +19,7 @@ fn said_written(found: Written) -> Said
 }
 
 fn said_taken(found: Taken) -> Said
-    ensures { result ≡ said_of (takenReply found) }
+    ensures { result ≡ said_of (taken_reply found) }
 {
     match found {
         Taken::Done => made(0, 0, 0, 0),
@@ -37,9 +37,9 @@ pub extern "C" fn dequant_write_record(
     text: &mut [u8],
     reply: &mut [u64],
 ) -> u32
-    ensures answer { result ≡ returned reply.old (writtenReply (writeAnswer rows.now samples.now (length text.old))) }
-    ensures reply { reply.new ≡ held reply.old (writtenReply (writeAnswer rows.now samples.now (length text.old))) }
-    ensures text { text.new ≡ kept reply.old (bufferAfter rows.now samples.now text.old) text.old }
+    ensures answer { result ≡ returned reply.old (written_reply (write_answer rows.now samples.now (length text.old))) }
+    ensures reply { reply.new ≡ held reply.old (written_reply (write_answer rows.now samples.now (length text.old))) }
+    ensures text { text.new ≡ kept reply.old (buffer_after rows.now samples.now text.old) text.old }
 {
     if reply.len() != 3 {
         return 1;
@@ -56,10 +56,10 @@ pub extern "C" fn dequant_read_record(
     samples: &mut [i32],
     reply: &mut [u64],
 ) -> u32
-    ensures answer { result ≡ returned reply.old (takenReply (readAnswer (length rows.old) (length samples.old) text.now)) }
-    ensures reply { reply.new ≡ held reply.old (takenReply (readAnswer (length rows.old) (length samples.old) text.now)) }
-    ensures rows { rows.new ≡ kept reply.old (rowsAfter rows.old (length samples.old) text.now) rows.old }
-    ensures samples { samples.new ≡ kept reply.old (samplesAfter (length rows.old) samples.old text.now) samples.old }
+    ensures answer { result ≡ returned reply.old (taken_reply (read_answer (length rows.old) (length samples.old) text.now)) }
+    ensures reply { reply.new ≡ held reply.old (taken_reply (read_answer (length rows.old) (length samples.old) text.now)) }
+    ensures rows { rows.new ≡ kept reply.old (rows_after rows.old (length samples.old) text.now) rows.old }
+    ensures samples { samples.new ≡ kept reply.old (samples_after (length rows.old) samples.old text.now) samples.old }
 {
     if reply.len() != 3 {
         return 1;

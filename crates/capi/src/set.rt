@@ -1,7 +1,7 @@
 // Expanding all kinds.
 ghost use Rattle.std.specs.Prelude.{◌≡◌, length};
-ghost use Rattle.matrix.specs.Expanded.{leaves, replyOf};
-ghost use Rattle.dequant.specs.Set.{expandSet, straightArena, transposedArena};
+ghost use Rattle.matrix.specs.Expanded.{leaves, reply_of};
+ghost use Rattle.dequant.specs.Set.{expand_set, straight_arena, transposed_arena};
 ghost use Rattle.capi.specs.Reply.{returned, held, kept};
 
 use crate::kind::said_expanded;
@@ -16,10 +16,10 @@ pub extern "C" fn dequant_expand(
     transposed: &mut [f32],
     reply: &mut [u64],
 ) -> u32
-    ensures answer { result ≡ returned reply.old (replyOf (expandSet rows.now samples.now (length straight.old) (length transposed.old))) }
-    ensures reply { reply.new ≡ held reply.old (replyOf (expandSet rows.now samples.now (length straight.old) (length transposed.old))) }
-    ensures straight { straight.new ≡ kept reply.old (leaves (expandSet rows.now samples.now (length straight.old) (length transposed.old)) (straightArena rows.now samples.now) straight.old) straight.old }
-    ensures transposed { transposed.new ≡ kept reply.old (leaves (expandSet rows.now samples.now (length straight.old) (length transposed.old)) (transposedArena rows.now samples.now) transposed.old) transposed.old }
+    ensures answer { result ≡ returned reply.old (reply_of (expand_set rows.now samples.now (length straight.old) (length transposed.old))) }
+    ensures reply { reply.new ≡ held reply.old (reply_of (expand_set rows.now samples.now (length straight.old) (length transposed.old))) }
+    ensures straight { straight.new ≡ kept reply.old (leaves (expand_set rows.now samples.now (length straight.old) (length transposed.old)) (straight_arena rows.now samples.now) straight.old) straight.old }
+    ensures transposed { transposed.new ≡ kept reply.old (leaves (expand_set rows.now samples.now (length straight.old) (length transposed.old)) (transposed_arena rows.now samples.now) transposed.old) transposed.old }
 {
     if reply.len() != 3 {
         return 1;

@@ -1,7 +1,7 @@
 // The short arena.
 ghost use Rattle.std.specs.Prelude.{◌≡◌, length};
-ghost use Rattle.short_arena.specs.Short.{shortReply, addAnswer, addArena, findAnswer, dropAnswer, dropArena};
-ghost use Rattle.capi.specs.Bytes.{stateIn, addBytes, dropBytes};
+ghost use Rattle.short_arena.specs.Short.{short_reply, add_answer, add_arena, find_answer, drop_answer, drop_arena};
+ghost use Rattle.capi.specs.Bytes.{state_in, add_bytes, drop_bytes};
 ghost use Rattle.capi.specs.Reply.{returned, held, kept};
 ghost use Rattle.capi.specs.Said.{said_of};
 
@@ -10,7 +10,7 @@ use crate::state::{put_state, state_of};
 use short_arena::Answer;
 
 fn said_short(found: Answer) -> Said
-    ensures { result ≡ said_of (shortReply found) }
+    ensures { result ≡ said_of (short_reply found) }
 {
     match found {
         Answer::Done => made(0, 0, 0, 0),
@@ -31,10 +31,10 @@ pub extern "C" fn dequant_short_add(
     weights: &[f32],
     reply: &mut [u64],
 ) -> u32
-    ensures answer { result ≡ returned reply.old (shortReply (addAnswer (length arena.old) (stateIn state.old) kind (length weights.now))) }
-    ensures reply { reply.new ≡ held reply.old (shortReply (addAnswer (length arena.old) (stateIn state.old) kind (length weights.now))) }
-    ensures arena { arena.new ≡ kept reply.old (addArena arena.old (stateIn state.old) kind weights.now) arena.old }
-    ensures state { state.new ≡ kept reply.old (addBytes (length arena.old) state.old kind (length weights.now)) state.old }
+    ensures answer { result ≡ returned reply.old (short_reply (add_answer (length arena.old) (state_in state.old) kind (length weights.now))) }
+    ensures reply { reply.new ≡ held reply.old (short_reply (add_answer (length arena.old) (state_in state.old) kind (length weights.now))) }
+    ensures arena { arena.new ≡ kept reply.old (add_arena arena.old (state_in state.old) kind weights.now) arena.old }
+    ensures state { state.new ≡ kept reply.old (add_bytes (length arena.old) state.old kind (length weights.now)) state.old }
 {
     if reply.len() != 3 {
         return 1;
@@ -54,8 +54,8 @@ pub extern "C" fn dequant_short_lookup(
     kind: usize,
     reply: &mut [u64],
 ) -> u32
-    ensures answer { result ≡ returned reply.old (shortReply (findAnswer (length arena.now) (stateIn state.now) kind)) }
-    ensures reply { reply.new ≡ held reply.old (shortReply (findAnswer (length arena.now) (stateIn state.now) kind)) }
+    ensures answer { result ≡ returned reply.old (short_reply (find_answer (length arena.now) (state_in state.now) kind)) }
+    ensures reply { reply.new ≡ held reply.old (short_reply (find_answer (length arena.now) (state_in state.now) kind)) }
 {
     if reply.len() != 3 {
         return 1;
@@ -72,10 +72,10 @@ pub extern "C" fn dequant_short_drop(
     kind: usize,
     reply: &mut [u64],
 ) -> u32
-    ensures answer { result ≡ returned reply.old (shortReply (dropAnswer (length arena.old) (stateIn state.old) kind)) }
-    ensures reply { reply.new ≡ held reply.old (shortReply (dropAnswer (length arena.old) (stateIn state.old) kind)) }
-    ensures arena { arena.new ≡ kept reply.old (dropArena arena.old (stateIn state.old) kind) arena.old }
-    ensures state { state.new ≡ kept reply.old (dropBytes (length arena.old) state.old kind) state.old }
+    ensures answer { result ≡ returned reply.old (short_reply (drop_answer (length arena.old) (state_in state.old) kind)) }
+    ensures reply { reply.new ≡ held reply.old (short_reply (drop_answer (length arena.old) (state_in state.old) kind)) }
+    ensures arena { arena.new ≡ kept reply.old (drop_arena arena.old (state_in state.old) kind) arena.old }
+    ensures state { state.new ≡ kept reply.old (drop_bytes (length arena.old) state.old kind) state.old }
 {
     if reply.len() != 3 {
         return 1;

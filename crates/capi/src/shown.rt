@@ -1,6 +1,6 @@
 // Where a lookup's part stands.
 ghost use Rattle.std.specs.Prelude.{◌≡◌, length};
-ghost use Rattle.capi.specs.Parts.{arenaNo, lookupReply};
+ghost use Rattle.capi.specs.Parts.{arena_no, lookup_reply};
 ghost use Rattle.capi.specs.Reply.{returned, held};
 ghost use Rattle.capi.specs.Said.{said_of};
 
@@ -9,7 +9,7 @@ use transform::Kind;
 
 // The straight arena only where it is named.
 fn arena_no(order: u32) -> u64
-    ensures { result ≡ arenaNo order }
+    ensures { result ≡ arena_no order }
 {
     if order == 1 {
         return 0;
@@ -19,7 +19,7 @@ fn arena_no(order: u32) -> u64
 
 // The part of a channel, in arenas of lengths s and t.
 fn said_part(s: usize, t: usize, kind: usize, channel: usize, order: u32) -> Said
-    ensures { result ≡ said_of (lookupReply s t kind channel order) }
+    ensures { result ≡ said_of (lookup_reply s t kind channel order) }
 {
     if order > 2 {
         return made(1, 0, 0, 0);
@@ -43,8 +43,8 @@ pub extern "C" fn dequant_lookup(
     order: u32,
     reply: &mut [u64],
 ) -> u32
-    ensures { (result ≡ returned reply.old (lookupReply (length straight.now) (length transposed.now) kind channel order))
-        × (reply.new ≡ held reply.old (lookupReply (length straight.now) (length transposed.now) kind channel order)) }
+    ensures { (result ≡ returned reply.old (lookup_reply (length straight.now) (length transposed.now) kind channel order))
+        × (reply.new ≡ held reply.old (lookup_reply (length straight.now) (length transposed.now) kind channel order)) }
 {
     if reply.len() != 3 {
         return 1;

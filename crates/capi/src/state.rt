@@ -1,7 +1,7 @@
 // A short arena's state as C has it, in 18 bytes.
 ghost use Rattle.std.specs.Prelude.{◌≡◌};
-ghost use Rattle.capi.specs.Bytes.{stateIn};
-ghost use Rattle.capi.specs.Said.{Small, putBytes};
+ghost use Rattle.capi.specs.Bytes.{state_in};
+ghost use Rattle.capi.specs.Said.{Small, put_bytes};
 
 use short_arena::State;
 use transform::Kind;
@@ -21,7 +21,7 @@ fn wide(x: u8) -> usize
 // The state in 18 bytes. In another number of bytes there is none: the one that is given has more kinds than there are, so that every call
 // refuses it.
 pub(crate) fn state_of(bytes: &[u8]) -> State
-    ensures { result ≡ stateIn bytes.now }
+    ensures { result ≡ state_in bytes.now }
 {
     let mut kinds = [0usize; 17];
     if bytes.len() != BYTES {
@@ -44,7 +44,7 @@ pub(crate) fn state_of(bytes: &[u8]) -> State
 // A state into its 18 bytes. Another number of bytes stays as it is.
 pub(crate) fn put_state(state: State, bytes: &mut [u8])
     requires { Small state }
-    ensures { bytes.new ≡ putBytes bytes.old state }
+    ensures { bytes.new ≡ put_bytes bytes.old state }
 {
     if bytes.len() != BYTES {
         return;

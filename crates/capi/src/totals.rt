@@ -1,6 +1,6 @@
 // The total beside an arena.
 ghost use Rattle.std.specs.Prelude.{◌≡◌};
-ghost use Rattle.total.specs.Total.{totalReply, totalAnswer, replaceAnswer, replaceArena};
+ghost use Rattle.total.specs.Total.{total_reply, total_answer, replace_answer, replace_arena};
 ghost use Rattle.capi.specs.Reply.{returned, held, kept};
 ghost use Rattle.capi.specs.Said.{said_of};
 
@@ -8,7 +8,7 @@ use crate::reply::{Said, made, say};
 use total::Total;
 
 fn said_total(found: Total) -> Said
-    ensures { result ≡ said_of (totalReply found) }
+    ensures { result ≡ said_of (total_reply found) }
 {
     match found {
         Total::Done { total } => made(0, total, 0, 0),
@@ -19,8 +19,8 @@ fn said_total(found: Total) -> Said
 // Says the total of a stretch of an arena: of `count` places from `first` on.
 #[unsafe(no_mangle)]
 pub extern "C" fn dequant_total(arena: &[f32], first: usize, count: usize, reply: &mut [u64]) -> u32
-    ensures answer { result ≡ returned reply.old (totalReply (totalAnswer arena.now first count)) }
-    ensures reply { reply.new ≡ held reply.old (totalReply (totalAnswer arena.now first count)) }
+    ensures answer { result ≡ returned reply.old (total_reply (total_answer arena.now first count)) }
+    ensures reply { reply.new ≡ held reply.old (total_reply (total_answer arena.now first count)) }
 {
     if reply.len() != 3 {
         return 1;
@@ -38,9 +38,9 @@ pub extern "C" fn dequant_replace_kind(
     weights: &[f32],
     reply: &mut [u64],
 ) -> u32
-    ensures answer { result ≡ returned reply.old (totalReply (replaceAnswer arena.old total kind weights.now)) }
-    ensures reply { reply.new ≡ held reply.old (totalReply (replaceAnswer arena.old total kind weights.now)) }
-    ensures arena { arena.new ≡ kept reply.old (replaceArena arena.old kind weights.now) arena.old }
+    ensures answer { result ≡ returned reply.old (total_reply (replace_answer arena.old total kind weights.now)) }
+    ensures reply { reply.new ≡ held reply.old (total_reply (replace_answer arena.old total kind weights.now)) }
+    ensures arena { arena.new ≡ kept reply.old (replace_arena arena.old kind weights.now) arena.old }
 {
     if reply.len() != 3 {
         return 1;

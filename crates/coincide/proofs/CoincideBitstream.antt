@@ -8,14 +8,14 @@ use Rattle.bitstream.specs.contracts.Bitstream.new as Bitstream-new
 use types.Logic.{Logic}
 
 module _ {M : Type 1} {𝓤 : Ura M} (𝓛 : Logic 𝓤) (mem : Memory → SProp 𝓤) (run : Routine → Fun 𝓤) where
-  pub half-to-f32-coincide : Coincide 𝓤 half-to-f32.ended (half-to-f32.clauses 𝓛 mem run) (λ κs r q s t. r ≡ q)
-  half-to-f32-coincide κs a g r q s t = one 𝓤 (λ e f. e ∙ sym f)
+  pub half_to_f32_coincide : Coincide 𝓤 half-to-f32.ended (half-to-f32.clauses 𝓛 mem run) (λ κs r q s t. r ≡ q)
+  half_to_f32_coincide κs a g r q s t = one 𝓤 (λ e f. e ∙ sym f)
 
-  pub bit-count-coincide : Coincide 𝓤 bit-count.ended (bit-count.clauses 𝓛 mem run) (λ κs r q s t. r ≡ q)
-  bit-count-coincide κs a g r q s t = one 𝓤 (λ e f. e ∙ sym f)
+  pub bit_count_coincide : Coincide 𝓤 bit-count.ended (bit-count.clauses 𝓛 mem run) (λ κs r q s t. r ≡ q)
+  bit_count_coincide κs a g r q s t = one 𝓤 (λ e f. e ∙ sym f)
 
-  pub read-bits-coincide : Coincide 𝓤 read-bits.ended (read-bits.clauses 𝓛 mem run) (λ κs r q s t. r ≡ q)
-  read-bits-coincide κs a g r q s t = one 𝓤 (λ e f. e ∙ sym f)
+  pub read_bits_coincide : Coincide 𝓤 read-bits.ended (read-bits.clauses 𝓛 mem run) (λ κs r q s t. r ≡ q)
+  read_bits_coincide κs a g r q s t = one 𝓤 (λ e f. e ∙ sym f)
 
-  pub Bitstream-new-coincide : Coincide 𝓤 Bitstream-new.ended (Bitstream-new.clauses 𝓛 mem run) (λ κs r q s t. r ≡ q)
-  Bitstream-new-coincide κs a g r q s t = one 𝓤 (λ e f. e ∙ sym f)
+  pub bitstream_new_coincide : Coincide 𝓤 Bitstream-new.ended (Bitstream-new.clauses 𝓛 mem run) (λ κs r q s t. r ≡ q)
+  bitstream_new_coincide κs a g r q s t = one 𝓤 (λ e f. e ∙ sym f)

@@ -8,14 +8,14 @@ use Rattle.short_arena.specs.contracts.drop_kind as drop-kind
 use types.Logic.{Logic}
 
 module _ {M : Type 1} {𝓤 : Ura M} (𝓛 : Logic 𝓤) (mem : Memory → SProp 𝓤) (run : Routine → Fun 𝓤) where
-  pub add-coincide : Coincide 𝓤 add.ended (add.clauses 𝓛 mem run) (λ κs r q s t. (r ≡ q) × (s.0.now ≡ t.0.now))
-  add-coincide κs a g r q s t = two 𝓤 (λ e f. (e.0 ∙ sym f.0, e.1 ∙ sym f.1))
+  pub add_coincide : Coincide 𝓤 add.ended (add.clauses 𝓛 mem run) (λ κs r q s t. (r ≡ q) × (s.0.now ≡ t.0.now))
+  add_coincide κs a g r q s t = two 𝓤 (λ e f. (e.0 ∙ sym f.0, e.1 ∙ sym f.1))
 
-  pub lookup-reply-coincide : Coincide 𝓤 lookup-reply.ended (lookup-reply.clauses 𝓛 mem run) (λ κs r q s t. r ≡ q)
-  lookup-reply-coincide κs a g r q s t = one 𝓤 (λ e f. e ∙ sym f)
+  pub lookup_reply_coincide : Coincide 𝓤 lookup-reply.ended (lookup-reply.clauses 𝓛 mem run) (λ κs r q s t. r ≡ q)
+  lookup_reply_coincide κs a g r q s t = one 𝓤 (λ e f. e ∙ sym f)
 
-  pub lookup-coincide : Coincide 𝓤 lookup.ended (lookup.clauses 𝓛 mem run) (λ κs r q s t. r.now ≡ q.now)
-  lookup-coincide κs a g r q s t = one 𝓤 (λ e f. e ∙ sym f)
+  pub lookup_coincide : Coincide 𝓤 lookup.ended (lookup.clauses 𝓛 mem run) (λ κs r q s t. r.now ≡ q.now)
+  lookup_coincide κs a g r q s t = one 𝓤 (λ e f. e ∙ sym f)
 
-  pub drop-kind-coincide : Coincide 𝓤 drop-kind.ended (drop-kind.clauses 𝓛 mem run) (λ κs r q s t. (r ≡ q) × (s.0.now ≡ t.0.now))
-  drop-kind-coincide κs a g r q s t = two 𝓤 (λ e f. (e.0 ∙ sym f.0, e.1 ∙ sym f.1))
+  pub drop_kind_coincide : Coincide 𝓤 drop-kind.ended (drop-kind.clauses 𝓛 mem run) (λ κs r q s t. (r ≡ q) × (s.0.now ≡ t.0.now))
+  drop_kind_coincide κs a g r q s t = two 𝓤 (λ e f. (e.0 ∙ sym f.0, e.1 ∙ sym f.1))

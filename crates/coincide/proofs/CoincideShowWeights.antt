@@ -5,5 +5,5 @@ use Rattle.show_weights.specs.contracts.total as total
 use types.Logic.{Logic}
 
 module _ {M : Type 1} {𝓤 : Ura M} (𝓛 : Logic 𝓤) (mem : Memory → SProp 𝓤) (run : Routine → Fun 𝓤) where
-  pub total-coincide : Coincide 𝓤 total.ended (total.clauses 𝓛 mem run) (λ κs r q s t. r ≡ q)
-  total-coincide κs a g r q s t = one 𝓤 (λ e f. e ∙ sym f)
+  pub total_coincide : Coincide 𝓤 total.ended (total.clauses 𝓛 mem run) (λ κs r q s t. r ≡ q)
+  total_coincide κs a g r q s t = one 𝓤 (λ e f. e ∙ sym f)

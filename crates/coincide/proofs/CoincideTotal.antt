@@ -7,11 +7,11 @@ use Rattle.total.specs.contracts.replace_kind as replace-kind
 use types.Logic.{Logic}
 
 module _ {M : Type 1} {𝓤 : Ura M} (𝓛 : Logic 𝓤) (mem : Memory → SProp 𝓤) (run : Routine → Fun 𝓤) where
-  pub bits-coincide : Coincide 𝓤 bits.ended (bits.clauses 𝓛 mem run) (λ κs r q s t. r ≡ q)
-  bits-coincide κs a g r q s t = one 𝓤 (λ e f. e ∙ sym f)
+  pub bits_coincide : Coincide 𝓤 bits.ended (bits.clauses 𝓛 mem run) (λ κs r q s t. r ≡ q)
+  bits_coincide κs a g r q s t = one 𝓤 (λ e f. e ∙ sym f)
 
-  pub stretch-total-coincide : Coincide 𝓤 stretch-total.ended (stretch-total.clauses 𝓛 mem run) (λ κs r q s t. r ≡ q)
-  stretch-total-coincide κs a g r q s t = one 𝓤 (λ e f. e ∙ sym f)
+  pub stretch_total_coincide : Coincide 𝓤 stretch-total.ended (stretch-total.clauses 𝓛 mem run) (λ κs r q s t. r ≡ q)
+  stretch_total_coincide κs a g r q s t = one 𝓤 (λ e f. e ∙ sym f)
 
-  pub replace-kind-coincide : Coincide 𝓤 replace-kind.ended (replace-kind.clauses 𝓛 mem run) (λ κs r q s t. (r ≡ q) × (s.0.now ≡ t.0.now))
-  replace-kind-coincide κs a g r q s t = two 𝓤 (λ e f. (e.0 ∙ sym f.0, e.1 ∙ sym f.1))
+  pub replace_kind_coincide : Coincide 𝓤 replace-kind.ended (replace-kind.clauses 𝓛 mem run) (λ κs r q s t. (r ≡ q) × (s.0.now ≡ t.0.now))
+  replace_kind_coincide κs a g r q s t = two 𝓤 (λ e f. (e.0 ∙ sym f.0, e.1 ∙ sym f.1))

@@ -5,10 +5,10 @@ use borrow.Author.Tests.{lt-leb}
 use lib.Ieee.{Float, nan, inf, fin, up, down, le, lt, eq}
 use lib.Ieee.Exact.{HasValue}
 use lib.Ieee.Fits.{down_pos}
-use Rattle.bitstream.specs.Half.{half, sizeIs}
-use Rattle.bitstream.proofs.HalfLaws.{half-exact}
+use Rattle.bitstream.specs.Half.{half, size_is}
+use Rattle.bitstream.proofs.HalfLaws.{half_exact}
 use Rattle.bands.specs.Bands.{nought}
-use Rattle.matrix.specs.Raw.{oddDenominator, oddRow}
+use Rattle.matrix.specs.Raw.{odd_denominator, odd_row}
 
 -- ---- a finite number is zero or below exactly if its sign is set or nothing is there
 minus : (n z : ℕ) → z ≡ 0 → (ltb 0 (n + z) || (eqb n z && (false || eqb n 0))) ≡ true
@@ -18,16 +18,16 @@ minus (suc n) z e = ap (λ (t : Bool). t || (eqb (suc n) z && (false || eqb (suc
 plus : (n z : ℕ) → z ≡ 0 → (ltb n z || (eqb n z && (true || eqb n 0))) ≡ eqb n 0
 plus n z e = ap (λ (z : ℕ). ltb n z || (eqb n z && (true || eqb n 0))) e ∙ ap (λ (t : Bool). t || (eqb n 0 && true)) (le-ltb n 0 (omega arith)) ∙ and-true (eqb n 0)
 
-pub le-nought : (s : Bool) (m : ℕ) (e : ℤ) → le (fin s m e) nought ≡ (s || eqb (m * up e) 0)
+pub le_nought : (s : Bool) (m : ℕ) (e : ℤ) → le (fin s m e) nought ≡ (s || eqb (m * up e) 0)
 unfolding le lt eq
-le-nought true m e = minus (m * up e * 1) (0 * 1 * down e) (omega arith)
-le-nought false m e = plus (m * up e * 1) (0 * 1 * down e) (omega arith) ∙ ap (λ (n : ℕ). eqb n 0) (mul-one (m * up e))
+le_nought true m e = minus (m * up e * 1) (0 * 1 * down e) (omega arith)
+le_nought false m e = plus (m * up e * 1) (0 * 1 * down e) (omega arith) ∙ ap (λ (n : ℕ). eqb n 0) (mul-one (m * up e))
 
 -- ---- a half float, by its bits
-of-value : (x : Float) (s : Bool) (a c : ℕ) → 0 < c → HasValue x s a c → le x nought ≡ (s || eqb a 0)
-of-value nan s a c C h = absurd h
-of-value (inf t) s a c C h = absurd h
-of-value (fin t m e) s a c C h = le-nought t m e ∙ ap (λ (t : Bool). t || eqb (m * up e) 0) h.0 ∙ ap (λ (z : Bool). s || z) (same (m * up e) a h.1)
+of_value : (x : Float) (s : Bool) (a c : ℕ) → 0 < c → HasValue x s a c → le x nought ≡ (s || eqb a 0)
+of_value nan s a c C h = absurd h
+of_value (inf t) s a c C h = absurd h
+of_value (fin t m e) s a c C h = le_nought t m e ∙ ap (λ (t : Bool). t || eqb (m * up e) 0) h.0 ∙ ap (λ (z : Bool). s || z) (same (m * up e) a h.1)
   where
     same : (n a : ℕ) → n * c ≡ a * down e → eqb n 0 ≡ eqb a 0
     same zero zero g = refl
@@ -35,41 +35,41 @@ of-value (fin t m e) s a c C h = le-nought t m e ∙ ap (λ (t : Bool). t || eqb
     same (suc n) zero g = absurd (lt_irrefl 0 (subst (λ (x : ℕ). 0 < x) (g ∙ zero-mul (down e)) (mul-pos {m = suc n} (omega arith) C)))
     same (suc n) (suc a) g = ne_eqb (suc n) 0 (λ z. omega arith) ∙ sym (ne_eqb (suc a) 0 (λ z. omega arith))
 
-odd_is : (h : ℕ) → oddDenominator h ≡ (leb 32768 h || eqb (sizeIs (h / 1024 % 32) (h % 1024)) 0)
-unfolding oddDenominator
-odd_is h = of-value (half h) (leb 32768 h) (sizeIs (h / 1024 % 32) (h % 1024)) (2 ^ 24) (lit< tt) (half-exact h)
+odd_is : (h : ℕ) → odd_denominator h ≡ (leb 32768 h || eqb (size_is (h / 1024 % 32) (h % 1024)) 0)
+unfolding odd_denominator
+odd_is h = of_value (half h) (leb 32768 h) (size_is (h / 1024 % 32) (h % 1024)) (2 ^ 24) (lit< tt) (half_exact h)
 
 -- zero
-pub odd-zero : (h : ℕ) → h ≡ 0 → true ≡ oddDenominator h
-odd-zero h e = sym (odd_is h ∙ ap (λ (h : ℕ). leb 32768 h || eqb (sizeIs (h / 1024 % 32) (h % 1024)) 0) e)
+pub odd_zero : (h : ℕ) → h ≡ 0 → true ≡ odd_denominator h
+odd_zero h e = sym (odd_is h ∙ ap (λ (h : ℕ). leb 32768 h || eqb (size_is (h / 1024 % 32) (h % 1024)) 0) e)
 
 -- else those whose sign is set
-some : (h : ℕ) → 0 < h → h < 32768 → 0 < sizeIs (h / 1024 % 32) (h % 1024)
+some : (h : ℕ) → 0 < h → h < 32768 → 0 < size_is (h / 1024 % 32) (h % 1024)
 some h p l = go (h / 1024 % 32) refl
   where
-    go : (x : ℕ) → h / 1024 % 32 ≡ x → 0 < sizeIs x (h % 1024)
+    go : (x : ℕ) → h / 1024 % 32 ≡ x → 0 < size_is x (h % 1024)
     go zero e = omega arith
     go (suc x) e = mul-pos {m = 1024 + h % 1024} (omega arith) (pow_pos x)
 
-pub odd_sign : (h : ℕ) → (h ≡ 0 → ⊥) → leb 32768 h ≡ oddDenominator h
+pub odd_sign : (h : ℕ) → (h ≡ 0 → ⊥) → leb 32768 h ≡ odd_denominator h
 odd_sign h n = sym (odd_is h ∙ go (leb 32768 h) refl)
   where
-    none : h < 32768 → sizeIs (h / 1024 % 32) (h % 1024) ≡ 0 → ⊥
+    none : h < 32768 → size_is (h / 1024 % 32) (h % 1024) ≡ 0 → ⊥
     none l e = lt_irrefl 0 (subst (λ (x : ℕ). 0 < x) e (some h (⊎_elim (λ z. absurd (n z)) (λ p. p) (eq-zero-or-pos h)) l))
 
-    go : (t : Bool) → leb 32768 h ≡ t → (t || eqb (sizeIs (h / 1024 % 32) (h % 1024)) 0) ≡ t
+    go : (t : Bool) → leb 32768 h ≡ t → (t || eqb (size_is (h / 1024 % 32) (h % 1024)) 0) ≡ t
     go true e = refl
-    go false e = ne_eqb (sizeIs (h / 1024 % 32) (h % 1024)) 0 (none (leb-false 32768 h e))
+    go false e = ne_eqb (size_is (h / 1024 % 32) (h % 1024)) 0 (none (leb-false 32768 h e))
 
 -- so none above 0000 and below 8000
-pub not-odd : (h : ℕ) → 0 < h → h < 32768 → oddDenominator h ≡ false
-not-odd h p l = sym (odd_sign h (λ z. lt_irrefl 0 (subst (λ (x : ℕ). 0 < x) z p))) ∙ lt-leb 32768 h l
+pub not_odd_lem : (h : ℕ) → 0 < h → h < 32768 → odd_denominator h ≡ false
+not_odd_lem h p l = sym (odd_sign h (λ z. lt_irrefl 0 (subst (λ (x : ℕ). 0 < x) z p))) ∙ lt-leb 32768 h l
 
 -- ---- a row
-pub plain_row : (row : List ℕ) → (get_or row 0 0 ≡ 7 → ⊥) → oddRow row ≡ false
-unfolding oddRow
-plain_row row n = ap (λ (b : Bool). b && oddDenominator (get_or row 3 0)) (ne_eqb (get_or row 0 0) 7 n)
+pub plain_row : (row : List ℕ) → (get_or row 0 0 ≡ 7 → ⊥) → odd_row row ≡ false
+unfolding odd_row
+plain_row row n = ap (λ (b : Bool). b && odd_denominator (get_or row 3 0)) (ne_eqb (get_or row 0 0) 7 n)
 
-pub raw_row : (row : List ℕ) → get_or row 0 0 ≡ 7 → oddRow row ≡ oddDenominator (get_or row 3 0)
-unfolding oddRow
-raw_row row e = ap (λ (b : Bool). b && oddDenominator (get_or row 3 0)) (eq-eqb (get_or row 0 0) 7 e)
+pub raw_row_lem : (row : List ℕ) → get_or row 0 0 ≡ 7 → odd_row row ≡ odd_denominator (get_or row 3 0)
+unfolding odd_row
+raw_row_lem row e = ap (λ (b : Bool). b && odd_denominator (get_or row 3 0)) (eq-eqb (get_or row 0 0) 7 e)

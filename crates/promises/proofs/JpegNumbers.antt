@@ -6,35 +6,35 @@ use Prim.Native.Nat.{ℕ}
 use lib.ListN.{get_or}
 use lib.Ieee.{round, div}
 use Rattle.bitstream.specs.Half.{half}
-use Rattle.params.specs.Allowed.{row_at, modeAt, rowAllowed}
+use Rattle.params.specs.Allowed.{row_at, mode_at, row_allowed}
 use Rattle.dequant.specs.declared.jpeg.Jpeg.TheVariants.{Done, None}
-use Rattle.dequant.specs.Jpeg.{jpegNumbers, roundsTo, jpegDenominator, jpegLent, jpegAnswer}
-use Rattle.dequant.proofs.JpegLaws.{says-raw}
+use Rattle.dequant.specs.Jpeg.{jpeg_numbers, rounds_to, jpeg_denominator, jpeg_lent, jpeg_answer}
+use Rattle.dequant.proofs.JpegLaws.{says_raw}
 
-is-1004 : jpegDenominator 0x1004 ≡ true
-unfolding jpegDenominator half round div roundsTo
-is-1004 = refl
+is_1004 : jpeg_denominator 0x1004 ≡ true
+unfolding jpeg_denominator half round div rounds_to
+is_1004 = refl
 
-not-1003 : jpegDenominator 0x1003 ≡ false
-unfolding jpegDenominator half round div roundsTo
-not-1003 = refl
+not_1003 : jpeg_denominator 0x1003 ≡ false
+unfolding jpeg_denominator half round div rounds_to
+not_1003 = refl
 
-not-1005 : jpegDenominator 0x1005 ≡ false
-unfolding jpegDenominator half round div roundsTo
-not-1005 = refl
+not_1005 : jpeg_denominator 0x1005 ≡ false
+unfolding jpeg_denominator half round div rounds_to
+not_1005 = refl
 
 -- rows and samples that pass LENT and ROW, row 0 raw with a denominator
 pub record Asked (rows : List ℕ) (n c d : ℕ) : Type 0 where
-  pub lent : jpegLent rows n c ≡ true
-  pub fine : rowAllowed 0 (row_at rows 0) ≡ true
-  pub raw : modeAt rows 0 ≡ 7
+  pub lent : jpeg_lent rows n c ≡ true
+  pub fine : row_allowed 0 (row_at rows 0) ≡ true
+  pub raw : mode_at rows 0 ≡ 7
   pub denominator : get_or rows 3 0 ≡ d
 
-answer : (rows : List ℕ) (n c d : ℕ) (b : Bool) → Asked rows n c d → jpegDenominator d ≡ b → jpegNumbers (jpegAnswer rows n c) ≡ jpegNumbers (cond b Done None)
-answer rows n c d b a e = ap jpegNumbers (sym (says-raw rows n c a.lent a.fine b a.raw (sym (ap jpegDenominator a.denominator ∙ e))))
+answer : (rows : List ℕ) (n c d : ℕ) (b : Bool) → Asked rows n c d → jpeg_denominator d ≡ b → jpeg_numbers (jpeg_answer rows n c) ≡ jpeg_numbers (cond b Done None)
+answer rows n c d b a e = ap jpeg_numbers (sym (says_raw rows n c a.lent a.fine b a.raw (sym (ap jpeg_denominator a.denominator ∙ e))))
 
-pub p8 : (rows : List ℕ) (n c : ℕ) → Asked rows n c 0x1004 → jpegNumbers (jpegAnswer rows n c) ≡ 0 ∷ []
-p8 rows n c a = answer rows n c 0x1004 true a is-1004
+pub p8 : (rows : List ℕ) (n c : ℕ) → Asked rows n c 0x1004 → jpeg_numbers (jpeg_answer rows n c) ≡ 0 ∷ []
+p8 rows n c a = answer rows n c 0x1004 true a is_1004
 
-pub p9 : (rows : List ℕ) (n c : ℕ) → (Asked rows n c 0x1003 → jpegNumbers (jpegAnswer rows n c) ≡ 11 ∷ []) × (Asked rows n c 0x1005 → jpegNumbers (jpegAnswer rows n c) ≡ 11 ∷ [])
-p9 rows n c = (λ a. answer rows n c 0x1003 false a not-1003, λ a. answer rows n c 0x1005 false a not-1005)
+pub p9 : (rows : List ℕ) (n c : ℕ) → (Asked rows n c 0x1003 → jpeg_numbers (jpeg_answer rows n c) ≡ 11 ∷ []) × (Asked rows n c 0x1005 → jpeg_numbers (jpeg_answer rows n c) ≡ 11 ∷ [])
+p9 rows n c = (λ a. answer rows n c 0x1003 false a not_1003, λ a. answer rows n c 0x1005 false a not_1005)

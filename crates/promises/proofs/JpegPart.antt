@@ -8,36 +8,36 @@ use lib.ListN.{length, get_or, take, drop, length-drop}
 use lib.Seq.{length-take-le, get_or-take, get_or-drop}
 use Rattle.dequant.specs.declared.jpeg.Jpeg.{Jpeg}
 use Rattle.dequant.specs.declared.jpeg.Jpeg.TheVariants.{Done, Lent, Row, None}
-use Rattle.dequant.specs.Jpeg.{jpegNumbers, jpegAnswer, givenBy, jpegValues}
-use Rattle.dequant.proofs.JpegLaws.{done-says, values-are}
-use Rattle.promises.proofs.ByNumber.{jpeg-done}
+use Rattle.dequant.specs.Jpeg.{jpeg_numbers, jpeg_answer, given_by, jpeg_values}
+use Rattle.dequant.proofs.JpegLaws.{done_says, values_are}
+use Rattle.promises.proofs.ByNumber.{jpeg_done}
 
 module _ (rows : List ℕ) (zs : List ℤ) (c : ℕ) where
   -- with DONE, 64 values: those of the samples from the channel's start
-  pub done-length : jpegNumbers (jpegAnswer rows (length zs) c) ≡ 0 ∷ [] → length (jpegValues rows zs c) ≡ 64
-  done-length said =
-      let e = jpeg-done (jpegAnswer rows (length zs) c) said in
-      let g = done-says rows (length zs) c e in
+  pub done_length : jpeg_numbers (jpeg_answer rows (length zs) c) ≡ 0 ∷ [] → length (jpeg_values rows zs c) ≡ 64
+  done_length said =
+      let e = jpeg_done (jpeg_answer rows (length zs) c) said in
+      let g = done_says rows (length zs) c e in
       let l : length zs ≡ 394752 = g.samples in
       let h : c < 3 = g.channel in
-      ap length (sym (values-are rows zs c Done (sym e)))
+      ap length (sym (values_are rows zs c Done (sym e)))
       ∙ length-take-le 64 (drop (c * 64) zs) (subst (λ (n : ℕ). 64 ≤ n) (sym (length-drop (c * 64) zs)) (omega arith))
 
-  pub done_at : jpegNumbers (jpegAnswer rows (length zs) c) ≡ 0 ∷ [] → (p : ℕ) → p < 64 → get_or (jpegValues rows zs c) p (pos 0) ≡ get_or zs (c * 64 + p) (pos 0)
+  pub done_at : jpeg_numbers (jpeg_answer rows (length zs) c) ≡ 0 ∷ [] → (p : ℕ) → p < 64 → get_or (jpeg_values rows zs c) p (pos 0) ≡ get_or zs (c * 64 + p) (pos 0)
   done_at said p h =
-      ap (λ (l : List ℤ). get_or l p (pos 0)) (sym (values-are rows zs c Done (sym (jpeg-done (jpegAnswer rows (length zs) c) said))))
+      ap (λ (l : List ℤ). get_or l p (pos 0)) (sym (values_are rows zs c Done (sym (jpeg_done (jpeg_answer rows (length zs) c) said))))
       ∙ get_or-take 64 (drop (c * 64) zs) p (pos 0) h
       ∙ get_or-drop (c * 64) zs p (pos 0)
 
   -- a part that is not empty says DONE
-  pub some-done : 0 < length (jpegValues rows zs c) → jpegNumbers (jpegAnswer rows (length zs) c) ≡ 0 ∷ []
-  some-done h = go (jpegAnswer rows (length zs) c) refl
+  pub some_done : 0 < length (jpeg_values rows zs c) → jpeg_numbers (jpeg_answer rows (length zs) c) ≡ 0 ∷ []
+  some_done h = go (jpeg_answer rows (length zs) c) refl
     where
-      none : (r : Jpeg) → r ≡ jpegAnswer rows (length zs) c → givenBy r (take 64 (drop (c * 64) zs)) ≡ [] → ⊥
-      none r e f = let z : length (jpegValues rows zs c) ≡ 0 = ap length (sym (values-are rows zs c r e) ∙ f) in omega arith
+      none : (r : Jpeg) → r ≡ jpeg_answer rows (length zs) c → given_by r (take 64 (drop (c * 64) zs)) ≡ [] → ⊥
+      none r e f = let z : length (jpeg_values rows zs c) ≡ 0 = ap length (sym (values_are rows zs c r e) ∙ f) in omega arith
 
-      go : (r : Jpeg) → r ≡ jpegAnswer rows (length zs) c → jpegNumbers (jpegAnswer rows (length zs) c) ≡ 0 ∷ []
-      go Done e = ap jpegNumbers (sym e)
+      go : (r : Jpeg) → r ≡ jpeg_answer rows (length zs) c → jpeg_numbers (jpeg_answer rows (length zs) c) ≡ 0 ∷ []
+      go Done e = ap jpeg_numbers (sym e)
       go Lent e = absurd (none Lent e refl)
       go (Row k) e = absurd (none (Row k) e refl)
       go None e = absurd (none None e refl)

@@ -1,6 +1,6 @@
--- Document 02's ticket 2 of a whole header. A reading is SHORT at a field that lacks as many bits as it says (`short-field`), at least 1 and no more than the field has (`short-within`).
+-- Document 02's ticket 2 of a whole header. A reading is SHORT at a field that lacks as many bits as it says (`short_field`), at least 1 and no more than the field has (`short_within`).
 -- With more bytes behind it, whatever they are, the header reads as before up to that field. As long as they are fewer bits than it lacks it is SHORT again at the same bit, and
--- lacks the rest (`short-again`); with as many the field is read, and only behind it the reading can be SHORT again (`short-past`).
+-- lacks the rest (`short_again`); with as many the field is read, and only behind it the reading can be SHORT again (`short_past`).
 use mathlib.Core.Path.{◌≡◌, refl, sym, ap, ◌∙◌, subst, subst⁻¹}
 use mathlib.Core.Bool.{Bool, true, false, ◌&&◌, cond}
 use mathlib.Core.List.{List, [], ◌∷◌, ◌++◌}
@@ -8,19 +8,19 @@ use Prim.Native.Nat.{ℕ, zero, suc, ◌+◌, ◌-◌, ◌*◌, ◌≤◌, ◌<�
 use native.Mathlib.Omega.{arith}
 use lib.ListN.{length, get_or, set, replicate}
 use lib.Dec.{leb, eqb}
-use Rattle.bitstream.specs.Bits.{width_of, bitCount, readBits}
+use Rattle.bitstream.specs.Bits.{width_of, bit_count, read_bits}
 use Rattle.bitstream.specs.Half.{barred}
 use Rattle.bitstream.specs.declared.Bits.{Bits}
 use Rattle.bitstream.specs.declared.Bits.TheVariants as bits
 use Rattle.bitstream.specs.declared.Field.{Field}
 use Rattle.bitstream.specs.declared.Field.TheVariants.{Flag, Mode, Count, Number}
-use Rattle.bitstream.proofs.Laws.{value-next, width_some}
-use Rattle.bitstream.proofs.Lacks.{read-within, read_kept, read-fewer, read-filled}
+use Rattle.bitstream.proofs.Laws.{value_next, width_some}
+use Rattle.bitstream.proofs.Lacks.{read_within, read_kept, read_fewer, read_filled}
 use Rattle.params.specs.declared.read.Reading.{Reading}
 use Rattle.params.specs.declared.read.Reading.TheVariants as reading
-use Rattle.params.specs.Row.{Hand, on, short, mode, float, numberIs, number, numbers, listIs, bandList, bandLists, fixed, lists, allowed, entryIs, entry}
+use Rattle.params.specs.Row.{Hand, on, short, mode, float, number_is, number, numbers, list_is, band_list, band_lists, fixed, lists, allowed, entry_is, entry}
 use Rattle.promises.proofs.ByNumber.{read_short}
-use Rattle.params.specs.Header.{replyOf, Outcome, gives, putRow, kindIs, after, kinds, allDefault, flagIs, startIs, readHeader}
+use Rattle.params.specs.Header.{reply_of, Outcome, gives, put_row, kind_is, after, kinds, all_default, flag_is, start_is, read_header}
 
 -- ---- past a bit: reading goes on behind it, or is short behind it, or is refused for what it has read
 abbrev Past : ℕ → Hand → Type 0
@@ -32,55 +32,55 @@ Past q (float p) = Unit {0}
 module _ (c : List ℕ) (q : ℕ) where
   number_past : (h : Hand) → Past q h → Past q (number c h)
   unfolding number
-  number_past (on p s row) t = go (readBits c p 16) refl
+  number_past (on p s row) t = go (read_bits c p 16) refl
     where
       pick : (u : Bool) (v k : ℕ) → k ≡ p + 16 → Past q (cond u (float p) (on k (s + 1) (set row s v)))
       pick true v k e = tt
       pick false v k e = omega arith
 
-      go : (r : Bits) → readBits c p 16 ≡ r → Past q (numberIs p s row r)
+      go : (r : Bits) → read_bits c p 16 ≡ r → Past q (number_is p s row r)
       go (bits.Short l) e = t
-      go (bits.Value v k) e = pick (barred v) v k (value-next c p 16 v k e)
+      go (bits.Value v k) e = pick (barred v) v k (value_next c p 16 v k e)
   number_past (short p l) t = t
   number_past (mode p) t = tt
   number_past (float p) t = tt
 
-  numbers-past : (n : ℕ) (h : Hand) → Past q h → Past q (numbers c n h)
+  numbers_past : (n : ℕ) (h : Hand) → Past q h → Past q (numbers c n h)
   unfolding numbers
-  numbers-past zero h t = t
-  numbers-past (suc n) h t = numbers-past n (number c h) (number_past h t)
+  numbers_past zero h t = t
+  numbers_past (suc n) h t = numbers_past n (number c h) (number_past h t)
 
-  list-past : (i : ℕ) (h : Hand) → Past q h → Past q (bandList c i h)
-  unfolding bandList
-  list-past i (on p s row) t = go (readBits c p 4) refl
+  list_past : (i : ℕ) (h : Hand) → Past q h → Past q (band_list c i h)
+  unfolding band_list
+  list_past i (on p s row) t = go (read_bits c p 4) refl
     where
-      go : (r : Bits) → readBits c p 4 ≡ r → Past q (listIs c i p s row r)
+      go : (r : Bits) → read_bits c p 4 ≡ r → Past q (list_is c i p s row r)
       go (bits.Short l) e = t
-      go (bits.Value v k) e = numbers-past (3 * (v + 1)) (on k s (set row i (v + 1))) (omega (arith, value-next c p 4 v k e))
-  list-past i (short p l) t = t
-  list-past i (mode p) t = tt
-  list-past i (float p) t = tt
+      go (bits.Value v k) e = numbers_past (3 * (v + 1)) (on k s (set row i (v + 1))) (omega (arith, value_next c p 4 v k e))
+  list_past i (short p l) t = t
+  list_past i (mode p) t = tt
+  list_past i (float p) t = tt
 
-  lists-past : (n i : ℕ) (h : Hand) → Past q h → Past q (bandLists c n i h)
-  unfolding bandLists
-  lists-past zero i h t = t
-  lists-past (suc n) i h t = lists-past n (i + 1) (bandList c i h) (list-past i h t)
+  lists_past : (n i : ℕ) (h : Hand) → Past q h → Past q (band_lists c n i h)
+  unfolding band_lists
+  lists_past zero i h t = t
+  lists_past (suc n) i h t = lists_past n (i + 1) (band_list c i h) (list_past i h t)
 
   -- an entry whose mode is read
-  mode-past : (kind p m k : ℕ) → q < k → Past q (entryIs c kind p (bits.Value m k))
-  mode-past kind p m k t = go (allowed kind m)
+  mode_past : (kind p m k : ℕ) → q < k → Past q (entry_is c kind p (bits.Value m k))
+  mode_past kind p m k t = go (allowed kind m)
     where
-      go : (u : Bool) → Past q (cond u (bandLists c (lists m) 1 (numbers c (fixed m) (on k 3 (set (replicate 128 0) 0 m)))) (mode p))
-      go true = lists-past (lists m) 1 (numbers c (fixed m) (on k 3 (set (replicate 128 0) 0 m))) (numbers-past (fixed m) (on k 3 (set (replicate 128 0) 0 m)) t)
+      go : (u : Bool) → Past q (cond u (band_lists c (lists m) 1 (numbers c (fixed m) (on k 3 (set (replicate 128 0) 0 m)))) (mode p))
+      go true = lists_past (lists m) 1 (numbers c (fixed m) (on k 3 (set (replicate 128 0) 0 m))) (numbers_past (fixed m) (on k 3 (set (replicate 128 0) 0 m)) t)
       go false = tt
 
   entry_past : (kind p : ℕ) → q < p → Past q (entry c kind p)
   unfolding entry
-  entry_past kind p t = go (readBits c p 3) refl
+  entry_past kind p t = go (read_bits c p 3) refl
     where
-      go : (r : Bits) → readBits c p 3 ≡ r → Past q (entryIs c kind p r)
+      go : (r : Bits) → read_bits c p 3 ≡ r → Past q (entry_is c kind p r)
       go (bits.Short l) e = t
-      go (bits.Value m k) e = mode-past kind p m k (omega (arith, value-next c p 3 m k e))
+      go (bits.Value m k) e = mode_past kind p m k (omega (arith, value_next c p 3 m k e))
 
 -- the same of an answer
 abbrev Behind : ℕ → Reading → Type 0
@@ -91,31 +91,31 @@ Behind q (reading.Mode k p) = Unit {0}
 Behind q (reading.Float k p) = Unit {0}
 Behind q (reading.Raw k p) = Unit {0}
 
-kind-behind : (q kind : ℕ) (rows : List ℕ) (h : Hand) → Past q h → Behind q (kindIs kind rows h).answer
-kind-behind q kind rows (on p s row) t = go (eqb (get_or row 0 0) 7)
+kind_behind : (q kind : ℕ) (rows : List ℕ) (h : Hand) → Past q h → Behind q (kind_is kind rows h).answer
+kind_behind q kind rows (on p s row) t = go (eqb (get_or row 0 0) 7)
   where
     go : (u : Bool) → Behind q (cond u (reading.Raw kind p) (reading.Done p))
     go true = tt
     go false = t
-kind-behind q kind rows (short p l) t = t
-kind-behind q kind rows (mode p) t = tt
-kind-behind q kind rows (float p) t = tt
+kind_behind q kind rows (short p l) t = t
+kind_behind q kind rows (mode p) t = tt
+kind_behind q kind rows (float p) t = tt
 
-after-behind : (c : List ℕ) (q kind : ℕ) (r : Reading) (rows : List ℕ) → Behind q r → Behind q (after c kind r rows).answer
-after-behind c q kind (reading.Done p) rows t = kind-behind q kind rows (entry c kind p) (entry_past c q kind p t)
-after-behind c q kind reading.Lent rows t = tt
-after-behind c q kind (reading.Short k p l) rows t = t
-after-behind c q kind (reading.Mode k p) rows t = tt
-after-behind c q kind (reading.Float k p) rows t = tt
-after-behind c q kind (reading.Raw k p) rows t = tt
+after_behind : (c : List ℕ) (q kind : ℕ) (r : Reading) (rows : List ℕ) → Behind q r → Behind q (after c kind r rows).answer
+after_behind c q kind (reading.Done p) rows t = kind_behind q kind rows (entry c kind p) (entry_past c q kind p t)
+after_behind c q kind reading.Lent rows t = tt
+after_behind c q kind (reading.Short k p l) rows t = t
+after_behind c q kind (reading.Mode k p) rows t = tt
+after_behind c q kind (reading.Float k p) rows t = tt
+after_behind c q kind (reading.Raw k p) rows t = tt
 
-kinds-behind : (c : List ℕ) (q n kind : ℕ) (o : Outcome) → Behind q o.answer → Behind q (kinds c n kind o).answer
+kinds_behind : (c : List ℕ) (q n kind : ℕ) (o : Outcome) → Behind q o.answer → Behind q (kinds c n kind o).answer
 unfolding kinds
-kinds-behind c q zero kind o t = t
-kinds-behind c q (suc n) kind o t = kinds-behind c q n (kind + 1) (after c kind o.answer o.rows) (after-behind c q kind o.answer o.rows t)
+kinds_behind c q zero kind o t = t
+kinds_behind c q (suc n) kind o t = kinds_behind c q n (kind + 1) (after c kind o.answer o.rows) (after_behind c q kind o.answer o.rows t)
 
 -- ---- two strings side by side: every field that is read in b is read in c
-module _ (b c : List ℕ) (same : (p n v q : ℕ) → readBits b p n ≡ bits.Value v q → readBits c p n ≡ bits.Value v q) where
+module _ (b c : List ℕ) (same : (p n v q : ℕ) → read_bits b p n ≡ bits.Value v q → read_bits c p n ≡ bits.Value v q) where
   -- nothing was short
   abbrev There : Hand → Type 0
   There (on p s row) = Unit {0}
@@ -131,20 +131,20 @@ module _ (b c : List ℕ) (same : (p n v q : ℕ) → readBits b p n ≡ bits.Va
   -- Nothing was short in b, and c has the same. Or a field is short in b, and c goes on from it by what it is there.
   data Goes : Hand → Hand → Type 0 where
     alike : (h : Hand) → There h → Goes h h
-    stops : (q l : ℕ) (f : Field) (h : Hand) → readBits b q (width_of f) ≡ bits.Short l → Then q h (readBits c q (width_of f)) → Goes (short q l) h
+    stops : (q l : ℕ) (f : Field) (h : Hand) → read_bits b q (width_of f) ≡ bits.Short l → Then q h (read_bits c q (width_of f)) → Goes (short q l) h
 
   -- a field, and what is made of it on either side
-  field-goes : (f : Field) (p : ℕ) (x y : Bits → Hand) → ((l : ℕ) → x (bits.Short l) ≡ short p l) → ((l : ℕ) → y (bits.Short l) ≡ short p l)
+  field_goes : (f : Field) (p : ℕ) (x y : Bits → Hand) → ((l : ℕ) → x (bits.Short l) ≡ short p l) → ((l : ℕ) → y (bits.Short l) ≡ short p l)
       → ((v k : ℕ) → Goes (x (bits.Value v k)) (y (bits.Value v k))) → ((v k : ℕ) → p < k → Past p (y (bits.Value v k)))
-      → Goes (x (readBits b p (width_of f))) (y (readBits c p (width_of f)))
-  field-goes f p x y xs ys g t = go (readBits b p (width_of f)) refl
+      → Goes (x (read_bits b p (width_of f))) (y (read_bits c p (width_of f)))
+  field_goes f p x y xs ys g t = go (read_bits b p (width_of f)) refl
     where
-      then : (r : Bits) → readBits c p (width_of f) ≡ r → Then p (y r) r
+      then : (r : Bits) → read_bits c p (width_of f) ≡ r → Then p (y r) r
       then (bits.Short m) e = ys m
-      then (bits.Value v k) e = t v k (omega (arith, value-next c p (width_of f) v k e, width_some f))
+      then (bits.Value v k) e = t v k (omega (arith, value_next c p (width_of f) v k e, width_some f))
 
-      go : (r : Bits) → readBits b p (width_of f) ≡ r → Goes (x (readBits b p (width_of f))) (y (readBits c p (width_of f)))
-      go (bits.Short l) e = subst⁻¹ (λ (h : Hand). Goes h (y (readBits c p (width_of f)))) (ap x e ∙ xs l) (stops p l f (y (readBits c p (width_of f))) e (then (readBits c p (width_of f)) refl))
+      go : (r : Bits) → read_bits b p (width_of f) ≡ r → Goes (x (read_bits b p (width_of f))) (y (read_bits c p (width_of f)))
+      go (bits.Short l) e = subst⁻¹ (λ (h : Hand). Goes h (y (read_bits c p (width_of f)))) (ap x e ∙ xs l) (stops p l f (y (read_bits c p (width_of f))) e (then (read_bits c p (width_of f)) refl))
       go (bits.Value v k) e = rw (e, same p (width_of f) v k e) (g v k)
 
   -- a step that lets what is short stay, and what is past a bit
@@ -153,9 +153,9 @@ module _ (b c : List ℕ) (same : (p n v q : ℕ) → readBits b p n ≡ bits.Va
   step_then x s t q h (bits.Short m) e = ap x e ∙ s q m
   step_then x s t q h (bits.Value v k) e = t q h e
 
-  number-goes : (h h' : Hand) → Goes h h' → Goes (number b h) (number c h')
+  number_goes : (h h' : Hand) → Goes h h' → Goes (number b h) (number c h')
   unfolding number
-  number-goes _ _ (alike (on p s row) w) = field-goes Number p (numberIs p s row) (numberIs p s row) (λ l. refl) (λ l. refl) (λ v k. read v k (barred v)) (λ v k t. pick v k t (barred v))
+  number_goes _ _ (alike (on p s row) w) = field_goes Number p (number_is p s row) (number_is p s row) (λ l. refl) (λ l. refl) (λ v k. read v k (barred v)) (λ v k t. pick v k t (barred v))
     where
       read : (v k : ℕ) (u : Bool) → Goes (cond u (float p) (on k (s + 1) (set row s v))) (cond u (float p) (on k (s + 1) (set row s v)))
       read v k true = alike (float p) tt
@@ -164,42 +164,42 @@ module _ (b c : List ℕ) (same : (p n v q : ℕ) → readBits b p n ≡ bits.Va
       pick : (v k : ℕ) → p < k → (u : Bool) → Past p (cond u (float p) (on k (s + 1) (set row s v)))
       pick v k t true = tt
       pick v k t false = t
-  number-goes _ _ (alike (short p l) w) = absurd w
-  number-goes _ _ (alike (mode p) w) = alike (mode p) tt
-  number-goes _ _ (alike (float p) w) = alike (float p) tt
-  number-goes _ _ (stops q l f h e t) = stops q l f (number c h) e (step_then (number c) (λ p m. refl) (number_past c) q h (readBits c q (width_of f)) t)
+  number_goes _ _ (alike (short p l) w) = absurd w
+  number_goes _ _ (alike (mode p) w) = alike (mode p) tt
+  number_goes _ _ (alike (float p) w) = alike (float p) tt
+  number_goes _ _ (stops q l f h e t) = stops q l f (number c h) e (step_then (number c) (λ p m. refl) (number_past c) q h (read_bits c q (width_of f)) t)
 
-  numbers-goes : (n : ℕ) (h h' : Hand) → Goes h h' → Goes (numbers b n h) (numbers c n h')
+  numbers_goes : (n : ℕ) (h h' : Hand) → Goes h h' → Goes (numbers b n h) (numbers c n h')
   unfolding numbers
-  numbers-goes zero h h' g = g
-  numbers-goes (suc n) h h' g = numbers-goes n (number b h) (number c h') (number-goes h h' g)
+  numbers_goes zero h h' g = g
+  numbers_goes (suc n) h h' g = numbers_goes n (number b h) (number c h') (number_goes h h' g)
 
-  list-goes : (i : ℕ) (h h' : Hand) → Goes h h' → Goes (bandList b i h) (bandList c i h')
-  unfolding bandList
-  list-goes i _ _ (alike (on p s row) w) =
-      field-goes Count p (listIs b i p s row) (listIs c i p s row) (λ l. refl) (λ l. refl)
-      (λ v k. numbers-goes (3 * (v + 1)) (on k s (set row i (v + 1))) (on k s (set row i (v + 1))) (alike (on k s (set row i (v + 1))) tt))
-      (λ v k t. numbers-past c p (3 * (v + 1)) (on k s (set row i (v + 1))) t)
-  list-goes i _ _ (alike (short p l) w) = absurd w
-  list-goes i _ _ (alike (mode p) w) = alike (mode p) tt
-  list-goes i _ _ (alike (float p) w) = alike (float p) tt
-  list-goes i _ _ (stops q l f h e t) = stops q l f (bandList c i h) e (step_then (bandList c i) (λ p m. refl) (λ k. list-past c k i) q h (readBits c q (width_of f)) t)
+  list_goes : (i : ℕ) (h h' : Hand) → Goes h h' → Goes (band_list b i h) (band_list c i h')
+  unfolding band_list
+  list_goes i _ _ (alike (on p s row) w) =
+      field_goes Count p (list_is b i p s row) (list_is c i p s row) (λ l. refl) (λ l. refl)
+      (λ v k. numbers_goes (3 * (v + 1)) (on k s (set row i (v + 1))) (on k s (set row i (v + 1))) (alike (on k s (set row i (v + 1))) tt))
+      (λ v k t. numbers_past c p (3 * (v + 1)) (on k s (set row i (v + 1))) t)
+  list_goes i _ _ (alike (short p l) w) = absurd w
+  list_goes i _ _ (alike (mode p) w) = alike (mode p) tt
+  list_goes i _ _ (alike (float p) w) = alike (float p) tt
+  list_goes i _ _ (stops q l f h e t) = stops q l f (band_list c i h) e (step_then (band_list c i) (λ p m. refl) (λ k. list_past c k i) q h (read_bits c q (width_of f)) t)
 
-  lists-goes : (n i : ℕ) (h h' : Hand) → Goes h h' → Goes (bandLists b n i h) (bandLists c n i h')
-  unfolding bandLists
-  lists-goes zero i h h' g = g
-  lists-goes (suc n) i h h' g = lists-goes n (i + 1) (bandList b i h) (bandList c i h') (list-goes i h h' g)
+  lists_goes : (n i : ℕ) (h h' : Hand) → Goes h h' → Goes (band_lists b n i h) (band_lists c n i h')
+  unfolding band_lists
+  lists_goes zero i h h' g = g
+  lists_goes (suc n) i h h' g = lists_goes n (i + 1) (band_list b i h) (band_list c i h') (list_goes i h h' g)
 
-  entry-goes : (kind p : ℕ) → Goes (entry b kind p) (entry c kind p)
+  entry_goes : (kind p : ℕ) → Goes (entry b kind p) (entry c kind p)
   unfolding entry
-  entry-goes kind p = field-goes Mode p (entryIs b kind p) (entryIs c kind p) (λ l. refl) (λ l. refl) (λ m k. read m k (allowed kind m)) (λ m k t. mode-past c p kind p m k t)
+  entry_goes kind p = field_goes Mode p (entry_is b kind p) (entry_is c kind p) (λ l. refl) (λ l. refl) (λ m k. read m k (allowed kind m)) (λ m k t. mode_past c p kind p m k t)
     where
       start : ℕ → ℕ → Hand
       start m k = on k 3 (set (replicate 128 0) 0 m)
 
       read : (m k : ℕ) (u : Bool)
-          → Goes (cond u (bandLists b (lists m) 1 (numbers b (fixed m) (start m k))) (mode p)) (cond u (bandLists c (lists m) 1 (numbers c (fixed m) (start m k))) (mode p))
-      read m k true = lists-goes (lists m) 1 (numbers b (fixed m) (start m k)) (numbers c (fixed m) (start m k)) (numbers-goes (fixed m) (start m k) (start m k) (alike (start m k) tt))
+          → Goes (cond u (band_lists b (lists m) 1 (numbers b (fixed m) (start m k))) (mode p)) (cond u (band_lists c (lists m) 1 (numbers c (fixed m) (start m k))) (mode p))
+      read m k true = lists_goes (lists m) 1 (numbers b (fixed m) (start m k)) (numbers c (fixed m) (start m k)) (numbers_goes (fixed m) (start m k) (start m k) (alike (start m k) tt))
       read m k false = alike (mode p) tt
 
   -- the same of an answer and its rows
@@ -218,113 +218,113 @@ module _ (b c : List ℕ) (same : (p n v q : ℕ) → readBits b p n ≡ bits.Va
 
   data Ends : Outcome → Outcome → Type 0 where
     as_before : (o : Outcome) → Whole o.answer → Ends o o
-    is-short : (kind q l : ℕ) (f : Field) (rows : List ℕ) (o : Outcome) → readBits b q (width_of f) ≡ bits.Short l → Gives kind q rows o (readBits c q (width_of f))
+    is_short : (kind q l : ℕ) (f : Field) (rows : List ℕ) (o : Outcome) → read_bits b q (width_of f) ≡ bits.Short l → Gives kind q rows o (read_bits c q (width_of f))
         → Ends (gives (reading.Short kind q l) rows) o
 
-  kind-ends : (kind : ℕ) (rows : List ℕ) (h h' : Hand) → Goes h h' → Ends (kindIs kind rows h) (kindIs kind rows h')
-  kind-ends kind rows _ _ (alike (on p s row) w) = go (eqb (get_or row 0 0) 7)
+  kind_ends : (kind : ℕ) (rows : List ℕ) (h h' : Hand) → Goes h h' → Ends (kind_is kind rows h) (kind_is kind rows h')
+  kind_ends kind rows _ _ (alike (on p s row) w) = go (eqb (get_or row 0 0) 7)
     where
-      go : (u : Bool) → Ends (gives (cond u (reading.Raw kind p) (reading.Done p)) (putRow rows kind row)) (gives (cond u (reading.Raw kind p) (reading.Done p)) (putRow rows kind row))
-      go true = as_before (gives (reading.Raw kind p) (putRow rows kind row)) tt
-      go false = as_before (gives (reading.Done p) (putRow rows kind row)) tt
-  kind-ends kind rows _ _ (alike (short p l) w) = absurd w
-  kind-ends kind rows _ _ (alike (mode p) w) = as_before (gives (reading.Mode kind p) rows) tt
-  kind-ends kind rows _ _ (alike (float p) w) = as_before (gives (reading.Float kind p) rows) tt
-  kind-ends kind rows _ _ (stops q l f h e t) = is-short kind q l f rows (kindIs kind rows h) e (go (readBits c q (width_of f)) t)
+      go : (u : Bool) → Ends (gives (cond u (reading.Raw kind p) (reading.Done p)) (put_row rows kind row)) (gives (cond u (reading.Raw kind p) (reading.Done p)) (put_row rows kind row))
+      go true = as_before (gives (reading.Raw kind p) (put_row rows kind row)) tt
+      go false = as_before (gives (reading.Done p) (put_row rows kind row)) tt
+  kind_ends kind rows _ _ (alike (short p l) w) = absurd w
+  kind_ends kind rows _ _ (alike (mode p) w) = as_before (gives (reading.Mode kind p) rows) tt
+  kind_ends kind rows _ _ (alike (float p) w) = as_before (gives (reading.Float kind p) rows) tt
+  kind_ends kind rows _ _ (stops q l f h e t) = is_short kind q l f rows (kind_is kind rows h) e (go (read_bits c q (width_of f)) t)
     where
-      go : (r : Bits) → Then q h r → Gives kind q rows (kindIs kind rows h) r
-      go (bits.Short m) i = ap (kindIs kind rows) i
-      go (bits.Value v k) i = kind-behind q kind rows h i
+      go : (r : Bits) → Then q h r → Gives kind q rows (kind_is kind rows h) r
+      go (bits.Short m) i = ap (kind_is kind rows) i
+      go (bits.Value v k) i = kind_behind q kind rows h i
 
-  after-ends : (kind : ℕ) (o o' : Outcome) → Ends o o' → Ends (after b kind o.answer o.rows) (after c kind o'.answer o'.rows)
-  after-ends kind _ _ (as_before o w) = go o.answer w
+  after_ends : (kind : ℕ) (o o' : Outcome) → Ends o o' → Ends (after b kind o.answer o.rows) (after c kind o'.answer o'.rows)
+  after_ends kind _ _ (as_before o w) = go o.answer w
     where
       go : (r : Reading) → Whole r → Ends (after b kind r o.rows) (after c kind r o.rows)
-      go (reading.Done p) i = kind-ends kind o.rows (entry b kind p) (entry c kind p) (entry-goes kind p)
+      go (reading.Done p) i = kind_ends kind o.rows (entry b kind p) (entry c kind p) (entry_goes kind p)
       go reading.Lent i = as_before (gives reading.Lent o.rows) tt
       go (reading.Short k p l) i = absurd i
       go (reading.Mode k p) i = as_before (gives (reading.Mode k p) o.rows) tt
       go (reading.Float k p) i = as_before (gives (reading.Float k p) o.rows) tt
       go (reading.Raw k p) i = as_before (gives (reading.Raw k p) o.rows) tt
-  after-ends kind _ _ (is-short j q l f rows o e t) = is-short j q l f rows (after c kind o.answer o.rows) e (go (readBits c q (width_of f)) t)
+  after_ends kind _ _ (is_short j q l f rows o e t) = is_short j q l f rows (after c kind o.answer o.rows) e (go (read_bits c q (width_of f)) t)
     where
       go : (r : Bits) → Gives j q rows o r → Gives j q rows (after c kind o.answer o.rows) r
       go (bits.Short m) i = ap (λ (x : Outcome). after c kind x.answer x.rows) i
-      go (bits.Value v k) i = after-behind c q kind o.answer o.rows i
+      go (bits.Value v k) i = after_behind c q kind o.answer o.rows i
 
-  kinds-ends : (n kind : ℕ) (o o' : Outcome) → Ends o o' → Ends (kinds b n kind o) (kinds c n kind o')
+  kinds_ends : (n kind : ℕ) (o o' : Outcome) → Ends o o' → Ends (kinds b n kind o) (kinds c n kind o')
   unfolding kinds
-  kinds-ends zero kind o o' t = t
-  kinds-ends (suc n) kind o o' t = kinds-ends n (kind + 1) (after b kind o.answer o.rows) (after c kind o'.answer o'.rows) (after-ends kind o o' t)
+  kinds_ends zero kind o o' t = t
+  kinds_ends (suc n) kind o o' t = kinds_ends n (kind + 1) (after b kind o.answer o.rows) (after c kind o'.answer o'.rows) (after_ends kind o o' t)
 
   -- all kinds behind a flag of 0, or an all-default set
-  flag-ends : (p : ℕ) (rows : List ℕ) → Ends (flagIs b p rows (readBits b p 1)) (flagIs c p rows (readBits c p 1))
-  flag-ends p rows = go (readBits b p 1) refl
+  flag_ends : (p : ℕ) (rows : List ℕ) → Ends (flag_is b p rows (read_bits b p 1)) (flag_is c p rows (read_bits c p 1))
+  flag_ends p rows = go (read_bits b p 1) refl
     where
-      all : (v k : ℕ) (u : Bool) → Ends (cond u (gives (reading.Done k) allDefault) (kinds b 17 0 (gives (reading.Done k) rows))) (cond u (gives (reading.Done k) allDefault) (kinds c 17 0 (gives (reading.Done k) rows)))
-      all v k true = as_before (gives (reading.Done k) allDefault) tt
-      all v k false = kinds-ends 17 0 (gives (reading.Done k) rows) (gives (reading.Done k) rows) (as_before (gives (reading.Done k) rows) tt)
+      all : (v k : ℕ) (u : Bool) → Ends (cond u (gives (reading.Done k) all_default) (kinds b 17 0 (gives (reading.Done k) rows))) (cond u (gives (reading.Done k) all_default) (kinds c 17 0 (gives (reading.Done k) rows)))
+      all v k true = as_before (gives (reading.Done k) all_default) tt
+      all v k false = kinds_ends 17 0 (gives (reading.Done k) rows) (gives (reading.Done k) rows) (as_before (gives (reading.Done k) rows) tt)
 
-      behind : (k : ℕ) (u : Bool) → p < k → Behind p (cond u (gives (reading.Done k) allDefault) (kinds c 17 0 (gives (reading.Done k) rows))).answer
+      behind : (k : ℕ) (u : Bool) → p < k → Behind p (cond u (gives (reading.Done k) all_default) (kinds c 17 0 (gives (reading.Done k) rows))).answer
       behind k true t = t
-      behind k false t = kinds-behind c p 17 0 (gives (reading.Done k) rows) t
+      behind k false t = kinds_behind c p 17 0 (gives (reading.Done k) rows) t
 
-      then : (r : Bits) → readBits c p 1 ≡ r → Gives 0 p rows (flagIs c p rows r) r
+      then : (r : Bits) → read_bits c p 1 ≡ r → Gives 0 p rows (flag_is c p rows r) r
       then (bits.Short m) e = refl
-      then (bits.Value v k) e = behind k (eqb v 1) (omega (arith, value-next c p 1 v k e))
+      then (bits.Value v k) e = behind k (eqb v 1) (omega (arith, value_next c p 1 v k e))
 
-      go : (r : Bits) → readBits b p 1 ≡ r → Ends (flagIs b p rows (readBits b p 1)) (flagIs c p rows (readBits c p 1))
-      go (bits.Short l) e = subst⁻¹ (λ (r : Bits). Ends (flagIs b p rows r) (flagIs c p rows (readBits c p 1))) e (is-short 0 p l Flag rows (flagIs c p rows (readBits c p 1)) e (then (readBits c p 1) refl))
+      go : (r : Bits) → read_bits b p 1 ≡ r → Ends (flag_is b p rows (read_bits b p 1)) (flag_is c p rows (read_bits c p 1))
+      go (bits.Short l) e = subst⁻¹ (λ (r : Bits). Ends (flag_is b p rows r) (flag_is c p rows (read_bits c p 1))) e (is_short 0 p l Flag rows (flag_is c p rows (read_bits c p 1)) e (then (read_bits c p 1) refl))
       go (bits.Value v k) e = rw (e, same p 1 v k e) (all v k (eqb v 1))
 
-  header-ends : (p k : ℕ) (rows : List ℕ) → Ends (readHeader b p k rows) (readHeader c p k rows)
-  unfolding readHeader
-  header-ends p k rows = go (leb k 16 && eqb (length rows) 2176) k
+  header_ends : (p k : ℕ) (rows : List ℕ) → Ends (read_header b p k rows) (read_header c p k rows)
+  unfolding read_header
+  header_ends p k rows = go (leb k 16 && eqb (length rows) 2176) k
     where
-      go : (u : Bool) (j : ℕ) → Ends (cond u (startIs b p j rows) (gives reading.Lent rows)) (cond u (startIs c p j rows) (gives reading.Lent rows))
+      go : (u : Bool) (j : ℕ) → Ends (cond u (start_is b p j rows) (gives reading.Lent rows)) (cond u (start_is c p j rows) (gives reading.Lent rows))
       go false j = as_before (gives reading.Lent rows) tt
-      go true zero = flag-ends p rows
-      go true (suc j) = kinds-ends (17 - suc j) (suc j) (gives (reading.Done p) rows) (gives (reading.Done p) rows) (as_before (gives (reading.Done p) rows) tt)
+      go true zero = flag_ends p rows
+      go true (suc j) = kinds_ends (17 - suc j) (suc j) (gives (reading.Done p) rows) (gives (reading.Done p) rows) (as_before (gives (reading.Done p) rows) tt)
 
-  short-case : (o o' : Outcome) → Ends o o' → (kind bit l : ℕ) → o.answer ≡ reading.Short kind bit l
-      → (f : Field) × (readBits b bit (width_of f) ≡ bits.Short l) × Gives kind bit o.rows o' (readBits c bit (width_of f))
-  short-case _ _ (as_before o w) kind bit l e = absurd (subst Whole e w)
-  short-case _ _ (is-short j q m f rows o r t) kind bit l e =
+  short_case : (o o' : Outcome) → Ends o o' → (kind bit l : ℕ) → o.answer ≡ reading.Short kind bit l
+      → (f : Field) × (read_bits b bit (width_of f) ≡ bits.Short l) × Gives kind bit o.rows o' (read_bits c bit (width_of f))
+  short_case _ _ (as_before o w) kind bit l e = absurd (subst Whole e w)
+  short_case _ _ (is_short j q m f rows o r t) kind bit l e =
       let ej : j ≡ kind = cc in
       let eq : q ≡ bit = cc in
       let em : m ≡ l = cc in
       (f, rw (sym eq, sym em) r, rw (sym ej, sym eq) t)
 
-itself : (b : List ℕ) (p n v q : ℕ) → readBits b p n ≡ bits.Value v q → readBits b p n ≡ bits.Value v q
+itself : (b : List ℕ) (p n v q : ℕ) → read_bits b p n ≡ bits.Value v q → read_bits b p n ≡ bits.Value v q
 itself b p n v q e = e
 
 -- how many bits more there are: behind the last one, or, for a field that starts past it, from its first bit on
 abbrev pub more : List ℕ → List ℕ → ℕ → ℕ
-more b d bit = bitCount (b ++ d) - max bit (bitCount b)
+more b d bit = bit_count (b ++ d) - max bit (bit_count b)
 
-module _ (b : List ℕ) (p k : ℕ) (rows : List ℕ) (kind bit l : ℕ) (e : replyOf (readHeader b p k rows).answer ≡ 2 ∷ kind ∷ bit ∷ l ∷ []) where
-  is : (readHeader b p k rows).answer ≡ reading.Short kind bit l
-  is = read_short (readHeader b p k rows).answer kind bit l e
+module _ (b : List ℕ) (p k : ℕ) (rows : List ℕ) (kind bit l : ℕ) (e : reply_of (read_header b p k rows).answer ≡ 2 ∷ kind ∷ bit ∷ l ∷ []) where
+  is : (read_header b p k rows).answer ≡ reading.Short kind bit l
+  is = read_short (read_header b p k rows).answer kind bit l e
 
   -- the answer's number is that of a field there
-  pub short-field : (f : Field) × (readBits b bit (width_of f) ≡ bits.Short l)
-  short-field =
-      let (f, r, t) = short-case b b (itself b) (readHeader b p k rows) (readHeader b p k rows) (header-ends b b (itself b) p k rows) kind bit l is in
+  pub short_field : (f : Field) × (read_bits b bit (width_of f) ≡ bits.Short l)
+  short_field =
+      let (f, r, t) = short_case b b (itself b) (read_header b p k rows) (read_header b p k rows) (header_ends b b (itself b) p k rows) kind bit l is in
       (f, r)
 
-  pub short-within : (1 ≤ l) × (l ≤ width_of short-field.0)
-  short-within = read-within b bit (width_of short-field.0) l short-field.1
+  pub short_within : (1 ≤ l) × (l ≤ width_of short_field.0)
+  short_within = read_within b bit (width_of short_field.0) l short_field.1
 
   -- with other bytes behind it
   module _ (d : List ℕ) where
-    pub short-again : more b d bit < l → readHeader (b ++ d) p k rows ≡ gives (reading.Short kind bit (l - more b d bit)) (readHeader b p k rows).rows
-    short-again h =
-        let (f, r, t) = short-case b (b ++ d) (read_kept b d) (readHeader b p k rows) (readHeader (b ++ d) p k rows) (header-ends b (b ++ d) (read_kept b d) p k rows) kind bit l is in
-        subst (Gives b (b ++ d) (read_kept b d) kind bit (readHeader b p k rows).rows (readHeader (b ++ d) p k rows)) (read-fewer b d bit (width_of f) l r h) t
+    pub short_again : more b d bit < l → read_header (b ++ d) p k rows ≡ gives (reading.Short kind bit (l - more b d bit)) (read_header b p k rows).rows
+    short_again h =
+        let (f, r, t) = short_case b (b ++ d) (read_kept b d) (read_header b p k rows) (read_header (b ++ d) p k rows) (header_ends b (b ++ d) (read_kept b d) p k rows) kind bit l is in
+        subst (Gives b (b ++ d) (read_kept b d) kind bit (read_header b p k rows).rows (read_header (b ++ d) p k rows)) (read_fewer b d bit (width_of f) l r h) t
 
-    pub short-past : l ≤ more b d bit → (kind' bit' l' : ℕ) → replyOf (readHeader (b ++ d) p k rows).answer ≡ 2 ∷ kind' ∷ bit' ∷ l' ∷ [] → bit < bit'
-    short-past h kind' bit' l' e' =
-        let (f, r, t) = short-case b (b ++ d) (read_kept b d) (readHeader b p k rows) (readHeader (b ++ d) p k rows) (header-ends b (b ++ d) (read_kept b d) p k rows) kind bit l is in
-        let behind : Behind bit (readHeader (b ++ d) p k rows).answer =
-        subst (Gives b (b ++ d) (read_kept b d) kind bit (readHeader b p k rows).rows (readHeader (b ++ d) p k rows)) (read-filled b d bit (width_of f) l r h) t in
-        subst (Behind bit) (read_short (readHeader (b ++ d) p k rows).answer kind' bit' l' e') behind
+    pub short_past : l ≤ more b d bit → (kind' bit' l' : ℕ) → reply_of (read_header (b ++ d) p k rows).answer ≡ 2 ∷ kind' ∷ bit' ∷ l' ∷ [] → bit < bit'
+    short_past h kind' bit' l' e' =
+        let (f, r, t) = short_case b (b ++ d) (read_kept b d) (read_header b p k rows) (read_header (b ++ d) p k rows) (header_ends b (b ++ d) (read_kept b d) p k rows) kind bit l is in
+        let behind : Behind bit (read_header (b ++ d) p k rows).answer =
+        subst (Gives b (b ++ d) (read_kept b d) kind bit (read_header b p k rows).rows (read_header (b ++ d) p k rows)) (read_filled b d bit (width_of f) l r h) t in
+        subst (Behind bit) (read_short (read_header (b ++ d) p k rows).answer kind' bit' l' e') behind

@@ -8,60 +8,60 @@ use lib.IntN.{ℤ, pos, negsuc}
 use lib.ListN.{length, get_or, replicate, length-replicate, get_or-replicate}
 use lib.Ieee.{Float, nan, fin}
 use Rattle.bitstream.specs.declared.half.Number.TheVariants.{Value}
-use Rattle.bitstream.specs.Half.{half, barred, halfAnswer, halfReply}
+use Rattle.bitstream.specs.Half.{half, barred, half_answer, half_reply}
 use Rattle.bitstream.proofs.Numbers as halves
-use Rattle.params.specs.Header.{replyOf, readHeader}
-use Rattle.params.specs.Allowed.{checkRows, checkReply}
+use Rattle.params.specs.Header.{reply_of, read_header}
+use Rattle.params.specs.Allowed.{check_rows, check_reply}
 use Rattle.params.proofs.Numbers as headers
-use Rattle.matrix.specs.Raw.{oddDenominator, weightOf, refused}
-use Rattle.matrix.specs.Mirror.{straightPlace, transposedPlace, mirror}
-use Rattle.matrix.specs.Weight.{weightsOf}
-use Rattle.matrix.specs.Expanded.{replyOf as expandedReply, expandAnswer, leaves}
-use Rattle.matrix.proofs.OddLaws.{not-odd}
-use Rattle.dequant.specs.Set.{straightArena, setLent, expandSet}
-use Rattle.dequant.specs.Jpeg.{jpegNumbers, jpegAnswer}
+use Rattle.matrix.specs.Raw.{odd_denominator, weight_of, refused}
+use Rattle.matrix.specs.Mirror.{straight_place, transposed_place, mirror}
+use Rattle.matrix.specs.Weight.{weights_of}
+use Rattle.matrix.specs.Expanded.{reply_of as expanded_reply, expand_answer, leaves}
+use Rattle.matrix.proofs.OddLaws.{not_odd_lem}
+use Rattle.dequant.specs.Set.{straight_arena, set_lent, expand_set}
+use Rattle.dequant.specs.Jpeg.{jpeg_numbers, jpeg_answer}
 use Rattle.bands.proofs.Numbers.{P7, p7}
-use Rattle.promises.proofs.ByNumber.{done-only}
+use Rattle.promises.proofs.ByNumber.{done_only}
 use Rattle.promises.proofs.Accepts.{Above}
 use Rattle.promises.proofs.NumbersToHold as weights
-use Rattle.promises.proofs.RowRule.{zeroRow, rawRow}
-use Rattle.promises.proofs.Headed.{headed-length}
-use Rattle.promises.proofs.RawOnes.{rawFirst, whole-lent, first_passes, first_above, first-same}
+use Rattle.promises.proofs.RowRule.{zero_row, raw_row}
+use Rattle.promises.proofs.Headed.{headed_length}
+use Rattle.promises.proofs.RawOnes.{raw_first, whole_lent, first_passes, first_above, first_same}
 use Rattle.promises.proofs.JpegNumbers.{Asked, p8, p9}
-use Rattle.promises.proofs.JpegThere.{asked-there}
-use Rattle.promises.proofs.FirstWeight.{Begins, set_first, set-refused, Raw, first-weight, first-refused, raw-there}
+use Rattle.promises.proofs.JpegThere.{asked_there}
+use Rattle.promises.proofs.FirstWeight.{Begins, set_first, set_refused, Raw, first_weight, first_refused, raw_there}
 
 -- ---- what a line of the table says
 
 -- a header read from bit 0 at kind 0 gives a reply, whatever the 2,176 numbers of the rows were before
 abbrev pub ReadsTo : List ℕ → List ℕ → Type 0
-ReadsTo header reply = (rows : List ℕ) → length rows ≡ 2176 → replyOf (readHeader header 0 0 rows).answer ≡ reply
+ReadsTo header reply = (rows : List ℕ) → length rows ≡ 2176 → reply_of (read_header header 0 0 rows).answer ≡ reply
 
 -- JPEG values at a denominator: a reply for all rows, samples and channels that pass LENT and ROW with row 0 raw of it; and there are such for every channel
 pub record Values (d : ℕ) (reply : List ℕ) : Type 0 where
-  pub answers : (rows : List ℕ) (n c : ℕ) → Asked rows n c d → jpegNumbers (jpegAnswer rows n c) ≡ reply
+  pub answers : (rows : List ℕ) (n c : ℕ) → Asked rows n c d → jpeg_numbers (jpeg_answer rows n c) ≡ reply
   pub there : (c : ℕ) → c < 3 → (rows : List ℕ) × (n : ℕ) × Asked rows n c d
 
 -- A sample times a denominator is a weight that is not refused. Of every set that is accepted, with row 0 raw of that denominator and that sample the first, `expand` leaves it at place 0
 -- of the straight arena, whatever stood there; and there is such a set. Of kind 0 by itself it is the weight at place 0.
 pub record Gives (d : ℕ) (z : ℤ) (w : Float) : Type 0 where
-  pub product : weightOf (half d) z ≡ w
+  pub product : weight_of (half d) z ≡ w
   pub passes : refused w ≡ false
-  pub holds : (rows : List ℕ) (zs : List ℤ) (straight : List Float) → Begins rows zs d z → expandedReply (expandSet rows zs 394752 394752) ≡ 0 ∷ []
-      → get_or (leaves (expandSet rows zs 394752 394752) (straightArena rows zs) straight) 0 nan ≡ w
-  pub there : (rows : List ℕ) × (zs : List ℤ) × Begins rows zs d z × (expandedReply (expandSet rows zs 394752 394752) ≡ 0 ∷ [])
-  pub alone : (row : List ℕ) (zs : List ℤ) → Raw row zs d z → get_or (weightsOf row zs 0) 0 nan ≡ w
-  pub alone-there : (row : List ℕ) × (zs : List ℤ) × Raw row zs d z
+  pub holds : (rows : List ℕ) (zs : List ℤ) (straight : List Float) → Begins rows zs d z → expanded_reply (expand_set rows zs 394752 394752) ≡ 0 ∷ []
+      → get_or (leaves (expand_set rows zs 394752 394752) (straight_arena rows zs) straight) 0 nan ≡ w
+  pub there : (rows : List ℕ) × (zs : List ℤ) × Begins rows zs d z × (expanded_reply (expand_set rows zs 394752 394752) ≡ 0 ∷ [])
+  pub alone : (row : List ℕ) (zs : List ℤ) → Raw row zs d z → get_or (weights_of row zs 0) 0 nan ≡ w
+  pub alone_there : (row : List ℕ) × (zs : List ℤ) × Raw row zs d z
 
 -- A sample times a denominator is refused. Every set that passes LENT, ROW and DENOM, with row 0 raw of that denominator and that sample the first, is WEIGHT with kind 0, channel 0, place 0;
 -- and there is such a set. So is kind 0 by itself.
 pub record Refuses (d : ℕ) (z : ℤ) : Type 0 where
-  pub product : refused (weightOf (half d) z) ≡ true
-  pub replies : (rows : List ℕ) (zs : List ℤ) → Begins rows zs d z → setLent rows (length zs) 394752 394752 ≡ true → checkReply (checkRows rows) ≡ 0 ∷ [] → Above rows
-      → expandedReply (expandSet rows zs 394752 394752) ≡ 8 ∷ 0 ∷ 0 ∷ 0 ∷ []
-  pub there : (rows : List ℕ) × (zs : List ℤ) × Begins rows zs d z × (setLent rows (length zs) 394752 394752 ≡ true) × (checkReply (checkRows rows) ≡ 0 ∷ []) × Above rows
-  pub alone : (row : List ℕ) (zs : List ℤ) → Raw row zs d z → expandedReply (expandAnswer 0 row zs 192 192) ≡ 8 ∷ 0 ∷ 0 ∷ 0 ∷ []
-  pub alone-there : (row : List ℕ) × (zs : List ℤ) × Raw row zs d z
+  pub product : refused (weight_of (half d) z) ≡ true
+  pub replies : (rows : List ℕ) (zs : List ℤ) → Begins rows zs d z → set_lent rows (length zs) 394752 394752 ≡ true → check_reply (check_rows rows) ≡ 0 ∷ [] → Above rows
+      → expanded_reply (expand_set rows zs 394752 394752) ≡ 8 ∷ 0 ∷ 0 ∷ 0 ∷ []
+  pub there : (rows : List ℕ) × (zs : List ℤ) × Begins rows zs d z × (set_lent rows (length zs) 394752 394752 ≡ true) × (check_reply (check_rows rows) ≡ 0 ∷ []) × Above rows
+  pub alone : (row : List ℕ) (zs : List ℤ) → Raw row zs d z → expanded_reply (expand_answer 0 row zs 192 192) ≡ 8 ∷ 0 ∷ 0 ∷ 0 ∷ []
+  pub alone_there : (row : List ℕ) × (zs : List ℤ) × Raw row zs d z
 
 -- ---- the table
 pub record Table : Type 0 where
@@ -71,9 +71,9 @@ pub record Table : Type 0 where
   pub p3 : ReadsTo (replicate 6 0) (2 ∷ 15 ∷ 46 ∷ 1 ∷ [])
   pub p4 : ReadsTo (0 ∷ 32 ∷ []) (3 ∷ 4 ∷ 13 ∷ [])
   -- half 7bff is 65504 = 2047 x 2 ^ 5, 7c00 FLOAT: by itself, and as kind 0's first number, at bit 4; half 0001 is 2 ^ -24
-  pub p5 : halfAnswer 0x7bff ≡ Value (fin false 2047 (pos 5))
-  pub p5-float : (halfReply (halfAnswer 0x7c00) ≡ 4 ∷ []) × ReadsTo (0x02 ∷ 0xc0 ∷ 0x07 ∷ []) (4 ∷ 0 ∷ 4 ∷ [])
-  pub p6 : halfAnswer 0x0001 ≡ Value (fin false 1 (negsuc 23))
+  pub p5 : half_answer 0x7bff ≡ Value (fin false 2047 (pos 5))
+  pub p5_float : (half_reply (half_answer 0x7c00) ≡ 4 ∷ []) × ReadsTo (0x02 ∷ 0xc0 ∷ 0x07 ∷ []) (4 ∷ 0 ∷ 4 ∷ [])
+  pub p6 : half_answer 0x0001 ≡ Value (fin false 1 (negsuc 23))
   -- mult(-1) = 0.5, mult(1) = 2, mult(0) = 1
   pub p7 : P7
   -- denominator 1004: JPEG values, DONE; 1003 and 1005: NONE
@@ -86,55 +86,55 @@ pub record Table : Type 0 where
   -- denominator 1004, sample 16: 257/32768
   pub p12 : Gives 0x1004 (pos 16) (fin false 257 (negsuc 14))
   -- kind 6: straight place 17 (row 1, column 1) is transposed 9, 1 (row 0, column 1) is 8; and there the weights stand, whatever weights the kind has
-  pub p13 : (straightPlace 6 0 1 1 ≡ 17) × (transposedPlace 6 0 1 1 ≡ 9) × (straightPlace 6 0 0 1 ≡ 1) × (transposedPlace 6 0 0 1 ≡ 8)
-  pub p13-mirror : (ws : List Float) → (get_or (mirror 6 ws) 9 nan ≡ get_or ws 17 nan) × (get_or (mirror 6 ws) 8 nan ≡ get_or ws 1 nan)
+  pub p13 : (straight_place 6 0 1 1 ≡ 17) × (transposed_place 6 0 1 1 ≡ 9) × (straight_place 6 0 0 1 ≡ 1) × (transposed_place 6 0 0 1 ≡ 8)
+  pub p13_mirror : (ws : List Float) → (get_or (mirror 6 ws) 9 nan ≡ get_or ws 17 nan) × (get_or (mirror 6 ws) 8 nan ≡ get_or ws 1 nan)
 
 -- ---- each line by its number
-values : (d : ℕ) (reply : List ℕ) → barred d ≡ false → ((rows : List ℕ) (n c : ℕ) → Asked rows n c d → jpegNumbers (jpegAnswer rows n c) ≡ reply) → Values d reply
-values d reply fine f = record { answers = f; there = λ c h. (rawFirst d, 394752, asked-there d c fine h) }
+values : (d : ℕ) (reply : List ℕ) → barred d ≡ false → ((rows : List ℕ) (n c : ℕ) → Asked rows n c d → jpeg_numbers (jpeg_answer rows n c) ≡ reply) → Values d reply
+values d reply fine f = record { answers = f; there = λ c h. (raw_first d, 394752, asked_there d c fine h) }
 
 -- row 0 raw, 16 rows of zeros behind it, and n samples that are all the same
-module _ (d : ℕ) (z : ℤ) (fine : barred d ≡ false) (above : oddDenominator d ≡ false) (n : ℕ) (whole : n ≡ 394752) where
-  begins : Begins (rawFirst d) (replicate n z) d z
+module _ (d : ℕ) (z : ℤ) (fine : barred d ≡ false) (above : odd_denominator d ≡ false) (n : ℕ) (whole : n ≡ 394752) where
+  begins : Begins (raw_first d) (replicate n z) d z
   begins = record { raw = refl; denominator = refl; first = get_or-replicate n 0 z (pos 0) (subst (λ (m : ℕ). 0 < m) (sym whole) (lit< tt)) }
 
-  one-row : (row : List ℕ) × (zs : List ℤ) × Raw row zs d z
-  one-row = (rawRow d, z ∷ replicate 191 z, raw-there d z (replicate 191 z) fine above (length-replicate 191 z))
+  one_row : (row : List ℕ) × (zs : List ℤ) × Raw row zs d z
+  one_row = (raw_row d, z ∷ replicate 191 z, raw_there d z (replicate 191 z) fine above (length-replicate 191 z))
 
-  gives : (w : Float) → weightOf (half d) z ≡ w → refused (weightOf (half d) z) ≡ false → Gives d z w
+  gives : (w : Float) → weight_of (half d) z ≡ w → refused (weight_of (half d) z) ≡ false → Gives d z w
   gives w e f = record {
     product = e;
     passes = ap refused (sym e) ∙ f;
-    holds = λ rows zs straight b a. rw (done-only (expandSet rows zs 394752 394752) a) (set_first rows zs d z b ∙ e);
-    there = (rawFirst d, replicate n z, begins, first-same d fine above z f n whole);
-    alone = λ row zs r. first-weight row zs d z r ∙ e;
-    alone-there = one-row;
+    holds = λ rows zs straight b a. rw (done_only (expand_set rows zs 394752 394752) a) (set_first rows zs d z b ∙ e);
+    there = (raw_first d, replicate n z, begins, first_same d fine above z f n whole);
+    alone = λ row zs r. first_weight row zs d z r ∙ e;
+    alone_there = one_row;
   }
 
-  refuses : refused (weightOf (half d) z) ≡ true → Refuses d z
+  refuses : refused (weight_of (half d) z) ≡ true → Refuses d z
   refuses e = record {
     product = e;
-    replies = λ rows zs b lent ok high. set-refused rows zs d z b 394752 394752 lent ok high e;
-    there = (rawFirst d, replicate n z, begins, whole-lent (rawFirst d) (replicate n z) (headed-length (rawRow d) zeroRow refl refl) (length-replicate n z ∙ whole), first_passes d fine, first_above d above);
-    alone = λ row zs r. first-refused row zs d z r e;
-    alone-there = one-row;
+    replies = λ rows zs b lent ok high. set_refused rows zs d z b 394752 394752 lent ok high e;
+    there = (raw_first d, replicate n z, begins, whole_lent (raw_first d) (replicate n z) (headed_length (raw_row d) zero_row refl refl) (length-replicate n z ∙ whole), first_passes d fine, first_above d above);
+    alone = λ row zs r. first_refused row zs d z r e;
+    alone_there = one_row;
   }
 
-pub table-holds : Table
-table-holds = record {
+pub table_holds : Table
+table_holds = record {
   p1 = λ rows l. (headers.numbers-hold rows l).p1;
   p2 = λ rows l. (headers.numbers-hold rows l).p2;
   p3 = λ rows l. (headers.numbers-hold rows l).p3;
   p4 = λ rows l. (headers.numbers-hold rows l).p4;
   p5 = halves.p5;
-  p5-float = (halves.p5-float, λ rows l. (headers.numbers-hold rows l).p5);
+  p5_float = (halves.p5_float, λ rows l. (headers.numbers-hold rows l).p5);
   p6 = halves.p6;
   p7 = p7;
   p8 = values 0x1004 (0 ∷ []) refl p8;
   p9 = (values 0x1003 (11 ∷ []) refl (λ rows n c. (p9 rows n c).0), values 0x1005 (11 ∷ []) refl (λ rows n c. (p9 rows n c).1));
-  p10 = (gives 0x7bff (pos 1526) refl (not-odd 0x7bff (lit< tt) (lit< tt)) 394752 refl (fin false 1561861 (pos 6)) (weights.p10).0 (weights.p10).1, refuses 0x7bff (pos 1527) refl (not-odd 0x7bff (lit< tt) (lit< tt)) 394752 refl (weights.p10).2);
-  p11 = (gives 0x3c00 (pos 99999995) refl (not-odd 0x3c00 (lit< tt) (lit< tt)) 394752 refl (fin false 12499999 (pos 3)) (weights.p11).0 (weights.p11).1, refuses 0x3c00 (pos 99999996) refl (not-odd 0x3c00 (lit< tt) (lit< tt)) 394752 refl (weights.p11).2);
-  p12 = gives 0x1004 (pos 16) refl (not-odd 0x1004 (lit< tt) (lit< tt)) 394752 refl (fin false 257 (negsuc 14)) (weights.p12).0 (weights.p12).1;
+  p10 = (gives 0x7bff (pos 1526) refl (not_odd_lem 0x7bff (lit< tt) (lit< tt)) 394752 refl (fin false 1561861 (pos 6)) (weights.p10).0 (weights.p10).1, refuses 0x7bff (pos 1527) refl (not_odd_lem 0x7bff (lit< tt) (lit< tt)) 394752 refl (weights.p10).2);
+  p11 = (gives 0x3c00 (pos 99999995) refl (not_odd_lem 0x3c00 (lit< tt) (lit< tt)) 394752 refl (fin false 12499999 (pos 3)) (weights.p11).0 (weights.p11).1, refuses 0x3c00 (pos 99999996) refl (not_odd_lem 0x3c00 (lit< tt) (lit< tt)) 394752 refl (weights.p11).2);
+  p12 = gives 0x1004 (pos 16) refl (not_odd_lem 0x1004 (lit< tt) (lit< tt)) 394752 refl (fin false 257 (negsuc 14)) (weights.p12).0 (weights.p12).1;
   p13 = weights.p13-places;
-  p13-mirror = weights.p13;
+  p13_mirror = weights.p13;
 }

@@ -6,9 +6,9 @@ ghost use Rattle.params.specs.Row.{fixed};
 ghost use Rattle.record.specs.Format.{got, lit, pick};
 ghost use Rattle.record.specs.Text.{bytes};
 ghost use Rattle.record.specs.Number.{signed};
-ghost use Rattle.record.specs.Record.{line, sampleCount, parts};
-ghost use Rattle.record.specs.Rows.{Row, rowFormat};
-ghost use Rattle.record.specs.Answers.{readAt, seen, slot, slot_name, Fresh, PartsStored, RowStored};
+ghost use Rattle.record.specs.Record.{line, sample_count, parts};
+ghost use Rattle.record.specs.Rows.{Row, row_format};
+ghost use Rattle.record.specs.Answers.{read_at, seen, slot, slot_name, Fresh, PartsStored, RowStored};
 
 use crate::fixed::{BANDS, NUMBERS, SAMPLES, mode_at};
 use crate::piece::{fixed_at, put_u16, samples, slots};
@@ -18,7 +18,7 @@ use transform::Kind;
 // The name of the line of band counts or, where hex says so, of half floats.
 fn name_at(s: &[u8], at: usize, hex: bool) -> Scan
     requires { at ≤ length s.now }
-    ensures { result ≡ seen (readAt (lit (slot_name hex)) s.now at) }
+    ensures { result ≡ seen (read_at (lit (slot_name hex)) s.now at) }
 {
     if hex {
         return fixed_at(s, at, &NUMBERS);
@@ -29,8 +29,8 @@ fn name_at(s: &[u8], at: usize, hex: bool) -> Scan
 // The line of n of them, where there is one, stored from a place on.
 fn slots_at(s: &[u8], at: usize, n: usize, hex: bool, out: &mut [u16], place: usize) -> Scan
     requires { (at ≤ length s.now) × (place + n < 4294967296) }
-    ensures scanned { result ≡ seen (readAt (line (slot_name hex) 0 (slot hex) n) s.now at) }
-    ensures stored { (vs : List ℕ) (q : ℕ) → readAt (line (slot_name hex) 0 (slot hex) n) s.now at ≡ got vs q → out.new ≡ sets out.old place vs }
+    ensures scanned { result ≡ seen (read_at (line (slot_name hex) 0 (slot hex) n) s.now at) }
+    ensures stored { (vs : List ℕ) (q : ℕ) → read_at (line (slot_name hex) 0 (slot hex) n) s.now at ≡ got vs q → out.new ≡ sets out.old place vs }
 {
     if n == 0 {
         return Scan::Got(at);
@@ -51,7 +51,7 @@ pub(crate) fn number_count(mode: usize, c: u16, d: u16) -> usize
 
 // How many samples a kind has in a mode.
 pub(crate) fn sample_count(kind: usize, mode: usize) -> usize
-    ensures { result ≡ sampleCount kind mode }
+    ensures { result ≡ sample_count kind mode }
 {
     if mode == 7 {
         let shape = Kind { no: kind };
@@ -100,8 +100,8 @@ fn parts_at(
     arena: &mut [i32],
 ) -> Scan
     requires { (at ≤ length s.now) × ((mode < 8) × Fresh row.old) }
-    ensures scanned { result ≡ seen (readAt (parts kind mode) s.now at) }
-    ensures stored { (p : List ℕ × (List ℕ × List ℤ)) (q : ℕ) → readAt (parts kind mode) s.now at ≡ got p q → PartsStored kind row.old row.new arena.old arena.new p }
+    ensures scanned { result ≡ seen (read_at (parts kind mode) s.now at) }
+    ensures stored { (p : List ℕ × (List ℕ × List ℤ)) (q : ℕ) → read_at (parts kind mode) s.now at ≡ got p q → PartsStored kind row.old row.new arena.old arena.new p }
 {
     let lists = params::LISTS[mode];
     match slots_at(s, at, lists, false, row, 1) {
@@ -131,8 +131,8 @@ pub(crate) fn put_numbers(out: &mut [u16], at: usize, w: &[u16])
 // A kind's row and samples.
 pub(crate) fn row_at(s: &[u8], at: usize, kind: usize, rows: &mut [u16], arena: &mut [i32]) -> Scan
     requires { (at ≤ length s.now) × (kind < 17) }
-    ensures scanned { result ≡ seen (readAt (rowFormat kind) s.now at) }
-    ensures stored { (p : Row) (q : ℕ) → readAt (rowFormat kind) s.now at ≡ got p q → RowStored kind rows.old rows.new arena.old arena.new p }
+    ensures scanned { result ≡ seen (read_at (row_format kind) s.now at) }
+    ensures stored { (p : Row) (q : ℕ) → read_at (row_format kind) s.now at ≡ got p q → RowStored kind rows.old rows.new arena.old arena.new p }
 {
     let mut row = [0u16; 128];
     match mode_at(s, at, kind) {

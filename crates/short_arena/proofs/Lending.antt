@@ -9,9 +9,9 @@ use lib.Dec.{ltb, leb}
 use lib.ListN.{length, drop, length-map}
 use lib.Seq.{length-take-le}
 use Rattle.short_arena.specs.declared.held.State.{State}
-use Rattle.short_arena.specs.Held.{held_of, single, placesIn}
-use Rattle.transform.specs.Zeros.{allZero}
-use Rattle.short_arena.specs.Short.{lentRight}
+use Rattle.short_arena.specs.Held.{held_of, single, places_in}
+use Rattle.transform.specs.Zeros.{all_zero}
+use Rattle.short_arena.specs.Short.{lent_right}
 use Rattle.transform.proofs.Chain.{here, next, left, right}
 
 -- a struct's array has its length
@@ -19,28 +19,28 @@ pub seventeen : (l : List ℕ) → length (map (λ v. v) l) ≡ 17 → length l 
 seventeen l e = sym (length-map l (λ v. v)) ∙ e
 
 -- as many are held as are counted
-pub held-count : (s : State) → length s.kinds ≡ 17 → s.count ≤ 17 → length (held_of s) ≡ s.count
-held-count s e h = length-take-le s.count s.kinds (omega arith)
+pub held_count : (s : State) → length s.kinds ≡ 17 → s.count ≤ 17 → length (held_of s) ≡ s.count
+held_count s e h = length-take-le s.count s.kinds (omega arith)
 
 module _ (n : ℕ) (s : State) (k : ℕ) where
-  pub no_kind : 17 ≤ k → false ≡ lentRight n s k
-  unfolding lentRight
+  pub no_kind : 17 ≤ k → false ≡ lent_right n s k
+  unfolding lent_right
   no_kind h = here (ltb k 17) _ (le-ltb k 17 h)
 
   module _ (a : k < 17) where
-    pub no-arena : 394752 < n → false ≡ lentRight n s k
-    unfolding lentRight
-    no-arena h = next (ltb k 17) _ false (lt-ltb k 17 a) (here (leb n 394752) _ (lt-leb n 394752 h))
+    pub no_arena : 394752 < n → false ≡ lent_right n s k
+    unfolding lent_right
+    no_arena h = next (ltb k 17) _ false (lt-ltb k 17 a) (here (leb n 394752) _ (lt-leb n 394752 h))
 
     module _ (b : n ≤ 394752) where
-      pub no-count : 17 < s.count → false ≡ lentRight n s k
-      unfolding lentRight
-      no-count h = next (ltb k 17) _ false (lt-ltb k 17 a) (next (leb n 394752) _ false (le-leb n 394752 b) (here (leb s.count 17) _ (lt-leb s.count 17 h)))
+      pub no_count : 17 < s.count → false ≡ lent_right n s k
+      unfolding lent_right
+      no_count h = next (ltb k 17) _ false (lt-ltb k 17 a) (next (leb n 394752) _ false (le-leb n 394752 b) (here (leb s.count 17) _ (lt-leb s.count 17 h)))
 
       module _ (d : s.count ≤ 17) where
-        pub by-kinds : (r : Bool) → r ≡ (single (held_of s) && (leb (placesIn (held_of s)) n && allZero (drop s.count s.kinds))) → r ≡ lentRight n s k
-        unfolding lentRight
-        by-kinds r h =
+        pub by_kinds : (r : Bool) → r ≡ (single (held_of s) && (leb (places_in (held_of s)) n && all_zero (drop s.count s.kinds))) → r ≡ lent_right n s k
+        unfolding lent_right
+        by_kinds r h =
             next (ltb k 17) _ r (lt-ltb k 17 a)
             (next (leb n 394752) _ r (le-leb n 394752 b) (next (leb s.count 17) _ r (le-leb s.count 17 d) h))
 
@@ -49,11 +49,11 @@ pub record Right (n : ℕ) (s : State) (k : ℕ) : Type 0 where
   pub arena : n ≤ 394752
   pub count : s.count ≤ 17
   pub once : single (held_of s) ≡ true
-  pub room : placesIn (held_of s) ≤ n
-  pub behind : allZero (drop s.count s.kinds) ≡ true
+  pub room : places_in (held_of s) ≤ n
+  pub behind : all_zero (drop s.count s.kinds) ≡ true
 
-pub is_right : (n : ℕ) (s : State) (k : ℕ) → lentRight n s k ≡ true → Right n s k
-unfolding lentRight
+pub is_right : (n : ℕ) (s : State) (k : ℕ) → lent_right n s k ≡ true → Right n s k
+unfolding lent_right
 is_right n s k e =
     let e1 = right (ltb k 17) _ e in
     let e2 = right (leb n 394752) _ e1 in
@@ -64,12 +64,12 @@ is_right n s k e =
       arena = leb-true n 394752 (left (leb n 394752) _ e1);
       count = leb-true s.count 17 (left (leb s.count 17) _ e2);
       once = left (single (held_of s)) _ e3;
-      room = leb-true (placesIn (held_of s)) n (left (leb (placesIn (held_of s)) n) _ e4);
-      behind = right (leb (placesIn (held_of s)) n) _ e4;
+      room = leb-true (places_in (held_of s)) n (left (leb (places_in (held_of s)) n) _ e4);
+      behind = right (leb (places_in (held_of s)) n) _ e4;
     }
 
 -- and the other way round
-pub right_is : (n : ℕ) (s : State) (k : ℕ) → Right n s k → lentRight n s k ≡ true
-unfolding lentRight
+pub right_is : (n : ℕ) (s : State) (k : ℕ) → Right n s k → lent_right n s k ≡ true
+unfolding lent_right
 right_is n s k r =
-    rw (lt-ltb k 17 r.kind, le-leb n 394752 r.arena, le-leb s.count 17 r.count, r.once, le-leb (placesIn (held_of s)) n r.room, r.behind)
+    rw (lt-ltb k 17 r.kind, le-leb n 394752 r.arena, le-leb s.count 17 r.count, r.once, le-leb (places_in (held_of s)) n r.room, r.behind)

@@ -11,61 +11,61 @@ use lib.ListN.{length, get_or, take, drop, set, replicate, length-append, length
 use lib.Seq.{take_all, length-take-le, set_split, drop-cons, append_snoc, take-suc, set_at}
 use Rattle.short_arena.specs.declared.held.State.{State}
 use Rattle.short_arena.specs.Held.{held_of, state_of, without}
-use Rattle.transform.specs.Zeros.{allZero}
+use Rattle.transform.specs.Zeros.{all_zero}
 use Rattle.transform.proofs.ZeroLaws.{zeros_of}
 use Rattle.transform.proofs.Chain.{right}
 
 -- what stands behind n of 17
-pub rest-is : (n : ℕ) (l : List ℕ) → length l ≡ 17 → take (17 - n) (drop n l) ≡ drop n l
-rest-is n l e = take_all (17 - n) (drop n l) (let d = length-drop n l in omega arith)
+pub rest_is : (n : ℕ) (l : List ℕ) → length l ≡ 17 → take (17 - n) (drop n l) ≡ drop n l
+rest_is n l e = take_all (17 - n) (drop n l) (let d = length-drop n l in omega arith)
 
 abbrev state : ℕ → List ℕ → State
 state n l = record { count = n; kinds = l }
 
-pub same-state : (a b : ℕ) (l m : List ℕ) → a ≡ b → l ≡ m → ◌≡◌ {A = State} (record { count = a; kinds = l }) (record { count = b; kinds = m })
-same-state a b l m e f = ap (λ (n : ℕ). state n l) e ∙ ap (state b) f
+pub same_state : (a b : ℕ) (l m : List ℕ) → a ≡ b → l ≡ m → ◌≡◌ {A = State} (record { count = a; kinds = l }) (record { count = b; kinds = m })
+same_state a b l m e f = ap (λ (n : ℕ). state n l) e ∙ ap (state b) f
 
 abbrev pub padded : List ℕ → List ℕ
 padded l = l ++ replicate (17 - length l) 0
 
 -- one kind more behind n of them
-module _ (n : ℕ) (l : List ℕ) (k : ℕ) (e : length l ≡ 17) (h : n < 17) (z : allZero (drop n l) ≡ true) where
+module _ (n : ℕ) (l : List ℕ) (k : ℕ) (e : length l ≡ 17) (h : n < 17) (z : all_zero (drop n l) ≡ true) where
   fits : n < length l
   fits = omega arith
 
-  count-more : length (take n l ++ k ∷ []) ≡ n + 1
-  count-more = length-append (take n l) (k ∷ []) ∙ ap (λ (m : ℕ). m + 1) (length-take-le n l (omega arith))
+  count_more : length (take n l ++ k ∷ []) ≡ n + 1
+  count_more = length-append (take n l) (k ∷ []) ∙ ap (λ (m : ℕ). m + 1) (length-take-le n l (omega arith))
 
-  later-zeros : drop (suc n) l ≡ replicate (17 - (n + 1)) 0
-  later-zeros =
-      let z1 : allZero (get_or l n 0 ∷ drop (suc n) l) ≡ true = sym (ap allZero (drop-cons l n 0 fits)) ∙ z in
-      zeros_of (drop (suc n) l) (right (eqb (get_or l n 0) 0) (allZero (drop (suc n) l)) z1)
+  later_zeros : drop (suc n) l ≡ replicate (17 - (n + 1)) 0
+  later_zeros =
+      let z1 : all_zero (get_or l n 0 ∷ drop (suc n) l) ≡ true = sym (ap all_zero (drop-cons l n 0 fits)) ∙ z in
+      zeros_of (drop (suc n) l) (right (eqb (get_or l n 0) 0) (all_zero (drop (suc n) l)) z1)
       ∙ ap (λ (m : ℕ). replicate m 0) (length-drop (suc n) l ∙ ap (λ (m : ℕ). m - suc n) e ∙ ap (λ (m : ℕ). 17 - m) (sym (add-one n)))
 
-  pub state-more : ◌≡◌ {A = State} (record { count = n + 1; kinds = set l n k }) (state_of (take n l ++ k ∷ []))
-  state-more =
-      same-state (n + 1) (length (take n l ++ k ∷ [])) (set l n k) (padded (take n l ++ k ∷ [])) (sym count-more)
+  pub state_more : ◌≡◌ {A = State} (record { count = n + 1; kinds = set l n k }) (state_of (take n l ++ k ∷ []))
+  state_more =
+      same_state (n + 1) (length (take n l ++ k ∷ [])) (set l n k) (padded (take n l ++ k ∷ [])) (sym count_more)
       (set_split l n k fits
-      ∙ ap (λ (r : List ℕ). take n l ++ k ∷ r) (later-zeros ∙ ap (λ (m : ℕ). replicate (17 - m) 0) (sym count-more))
+      ∙ ap (λ (r : List ℕ). take n l ++ k ∷ r) (later_zeros ∙ ap (λ (m : ℕ). replicate (17 - m) 0) (sym count_more))
       ∙ sym (append_snoc (take n l) k (replicate (17 - length (take n l ++ k ∷ [])) 0)))
 
 -- a state that is lent right is the state of its kinds
-pub state-same : (s : State) → length s.kinds ≡ 17 → s.count ≤ 17 → allZero (drop s.count s.kinds) ≡ true → s ≡ state_of (held_of s)
-state-same s e h z =
+pub state_same : (s : State) → length s.kinds ≡ 17 → s.count ≤ 17 → all_zero (drop s.count s.kinds) ≡ true → s ≡ state_of (held_of s)
+state_same s e h z =
     let c : s.count ≡ length (held_of s) = sym (length-take-le s.count s.kinds (omega arith)) in
-    same-state s.count (length (held_of s)) s.kinds (padded (held_of s)) c
+    same_state s.count (length (held_of s)) s.kinds (padded (held_of s)) c
     (sym (take-append-drop s.count s.kinds)
     ∙ ap (λ (r : List ℕ). held_of s ++ r) (zeros_of (drop s.count s.kinds) z ∙ ap (λ (m : ℕ). replicate m 0) (length-drop s.count s.kinds ∙ ap (λ (m : ℕ). m - s.count) e ∙ ap (λ (m : ℕ). 17 - m) c)))
 
 -- ---- a loop that leaves one kind out
-without-snoc : (l : List ℕ) (x k : ℕ) → without (l ++ x ∷ []) k ≡ without l k ++ cond (eqb x k) [] (x ∷ [])
+without_snoc : (l : List ℕ) (x k : ℕ) → without (l ++ x ∷ []) k ≡ without l k ++ cond (eqb x k) [] (x ∷ [])
 unfolding without
-without-snoc [] x k = go (eqb x k)
+without_snoc [] x k = go (eqb x k)
   where
     go : (b : Bool) → cond b [] (x ∷ []) ≡ [] ++ cond b [] (x ∷ [])
     go true = refl
     go false = refl
-without-snoc (j ∷ l) x k = go (eqb j k) (without-snoc l x k)
+without_snoc (j ∷ l) x k = go (eqb j k) (without_snoc l x k)
   where
     go : (b : Bool) → without (l ++ x ∷ []) k ≡ without l k ++ cond (eqb x k) [] (x ∷ []) → cond b (without (l ++ x ∷ []) k) (j ∷ without (l ++ x ∷ []) k) ≡ cond b (without l k) (j ∷ without l k) ++ cond (eqb x k) [] (x ∷ [])
     go true e = e
@@ -75,14 +75,14 @@ module _ (l : List ℕ) (i k : ℕ) (h : i < length l) where
   one_more : take (i + 1) l ≡ take i l ++ get_or l i 0 ∷ []
   one_more = ap (λ (m : ℕ). take m l) (add-one i) ∙ take-suc l i 0 h
 
-  pub without-same : get_or l i 0 ≡ k → without (take (i + 1) l) k ≡ without (take i l) k
-  without-same e =
-      ap (λ (r : List ℕ). without r k) one_more ∙ without-snoc (take i l) (get_or l i 0) k
+  pub without_same : get_or l i 0 ≡ k → without (take (i + 1) l) k ≡ without (take i l) k
+  without_same e =
+      ap (λ (r : List ℕ). without r k) one_more ∙ without_snoc (take i l) (get_or l i 0) k
       ∙ ap (λ (b : Bool). without (take i l) k ++ cond b [] (get_or l i 0 ∷ [])) (eq-eqb (get_or l i 0) k e) ∙ append-nil (without (take i l) k)
 
   pub without_other : (get_or l i 0 ≡ k → ⊥) → without (take (i + 1) l) k ≡ without (take i l) k ++ get_or l i 0 ∷ []
   without_other e =
-      ap (λ (r : List ℕ). without r k) one_more ∙ without-snoc (take i l) (get_or l i 0) k
+      ap (λ (r : List ℕ). without r k) one_more ∙ without_snoc (take i l) (get_or l i 0) k
       ∙ ap (λ (b : Bool). without (take i l) k ++ cond b [] (get_or l i 0 ∷ [])) (ne_eqb (get_or l i 0) k e)
 
 -- the next of them

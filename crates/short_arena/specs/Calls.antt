@@ -7,11 +7,11 @@ use Rattle.short_arena.specs.declared.held.State.{State}
 use Rattle.short_arena.specs.declared.arena.Answer.{Answer}
 use Rattle.short_arena.specs.declared.arena.Answer.TheVariants.{Done, Part, Lent, Held, Full, Gone}
 use Rattle.short_arena.specs.Held.{state_of}
-use Rattle.short_arena.specs.Short.{lentRight, addAnswer, addState, addArena, findAnswer, shown, dropAnswer, dropState, dropArena, leaves}
+use Rattle.short_arena.specs.Short.{lent_right, add_answer, add_state, add_arena, find_answer, shown, drop_answer, drop_state, drop_arena, leaves}
 
 -- what adding m weights asks for before HELD and FULL: as many as the kind has, and the rest lent right
 abbrev pub AddRight : ℕ → State → ℕ → ℕ → Type 0
-AddRight n s k m = (m ≡ places_of k) × (lentRight n s k ≡ true)
+AddRight n s k m = (m ≡ places_of k) × (lent_right n s k ≡ true)
 
 -- a call: a kind added with these weights, looked up, or dropped
 pub data Call : Type 0 where
@@ -36,16 +36,16 @@ pub record Left : Type 0 where
 abbrev pub call : Call → Left → Left
 call (adding k ws) d =
     record {
-      arena = addArena d.arena d.state k ws;
-      state = addState (length d.arena) d.state k (length ws);
-      noted = leaves (addAnswer (length d.arena) d.state k (length ws)) (note d.noted k (some ws)) d.noted;
+      arena = add_arena d.arena d.state k ws;
+      state = add_state (length d.arena) d.state k (length ws);
+      noted = leaves (add_answer (length d.arena) d.state k (length ws)) (note d.noted k (some ws)) d.noted;
     }
 call (finding k) d = d
 call (dropping k) d =
     record {
-      arena = dropArena d.arena d.state k;
-      state = dropState (length d.arena) d.state k;
-      noted = leaves (dropAnswer (length d.arena) d.state k) (note d.noted k none) d.noted;
+      arena = drop_arena d.arena d.state k;
+      state = drop_state (length d.arena) d.state k;
+      noted = leaves (drop_answer (length d.arena) d.state k) (note d.noted k none) d.noted;
     }
 
 -- all of them
@@ -58,28 +58,28 @@ abbrev pub begun : List Float → Left
 begun a = record { arena = a; state = state_of []; noted = λ k. none }
 
 -- the weights that looking up shows, with DONE
-abbrev pub withDone : Answer → List Float → Option (List Float)
-withDone Done p = none
-withDone (Part first n) p = some p
-withDone Lent p = none
-withDone Held p = none
-withDone Full p = none
-withDone Gone p = none
+abbrev pub with_done : Answer → List Float → Option (List Float)
+with_done Done p = none
+with_done (Part first n) p = some p
+with_done Lent p = none
+with_done Held p = none
+with_done Full p = none
+with_done Gone p = none
 
 -- what looking a kind up shows
 abbrev pub seen : Left → ℕ → Option (List Float)
-seen d k = withDone (findAnswer (length d.arena) d.state k) (shown d.arena d.state k)
+seen d k = with_done (find_answer (length d.arena) d.state k) (shown d.arena d.state k)
 
 -- whether something is noted
-abbrev pub isNoted : Option (List Float) → Bool
-isNoted none = false
-isNoted (some ws) = true
+abbrev pub is_noted : Option (List Float) → Bool
+is_noted none = false
+is_noted (some ws) = true
 
 -- a number summed over 0, .., n - 1
-unfoldable pub sumBelow : (ℕ → ℕ) → ℕ → ℕ
-sumBelow f zero = 0
-sumBelow f (suc n) = sumBelow f n + f n
+unfoldable pub sum_below : (ℕ → ℕ) → ℕ → ℕ
+sum_below f zero = 0
+sum_below f (suc n) = sum_below f n + f n
 
 -- the places of the kinds that were added and not dropped since
-abbrev pub notedPlaces : Left → ℕ
-notedPlaces d = sumBelow (λ k. cond (isNoted (d.noted k)) (places_of k) 0) 17
+abbrev pub noted_places : Left → ℕ
+noted_places d = sum_below (λ k. cond (is_noted (d.noted k)) (places_of k) 0) 17

@@ -22,13 +22,13 @@ single [] = true
 single (j ∷ ks) = ltb j 17 && (not (is_held ks j) && single ks)
 
 -- the sum of a number over them
-unfoldable pub sumOver : (ℕ → ℕ) → List ℕ → ℕ
-sumOver f [] = 0
-sumOver f (j ∷ ks) = f j + sumOver f ks
+unfoldable pub sum_over : (ℕ → ℕ) → List ℕ → ℕ
+sum_over f [] = 0
+sum_over f (j ∷ ks) = f j + sum_over f ks
 
 -- the places in use: 3 x width x height for each
-abbrev pub placesIn : List ℕ → ℕ
-placesIn ks = sumOver places_of ks
+abbrev pub places_in : List ℕ → ℕ
+places_in ks = sum_over places_of ks
 
 -- where a kind starts: after the places of those added before it
 unfoldable pub start_in : List ℕ → ℕ → ℕ

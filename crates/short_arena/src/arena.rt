@@ -1,6 +1,6 @@
 // The calls: a kind added, looked up and dropped.
 ghost use Rattle.std.specs.Prelude.{◌≡◌, length};
-ghost use Rattle.short_arena.specs.Short.{addAnswer, addState, addArena, findAnswer, shown, dropAnswer, dropState, dropArena};
+ghost use Rattle.short_arena.specs.Short.{add_answer, add_state, add_arena, find_answer, shown, drop_answer, drop_state, drop_arena};
 
 use crate::held::{State, is_held, lent_right, places_in, start_in, with_kind, without_kind};
 use transform::Kind;
@@ -25,7 +25,7 @@ pub struct Step {
 
 // What adding m weights answers, in an arena of n places.
 fn judge(n: usize, state: State, kind: usize, m: usize) -> Answer
-    ensures { result ≡ addAnswer n state kind m }
+    ensures { result ≡ add_answer n state kind m }
 {
     let k = Kind { no: kind };
     let length = k.arena_length();
@@ -51,8 +51,8 @@ fn judge(n: usize, state: State, kind: usize, m: usize) -> Answer
 
 // A kind's weights behind those held.
 pub fn add(arena: &mut [f32], state: State, kind: usize, weights: &[f32]) -> Step
-    ensures step { result ≡ record { answer = addAnswer (length arena.old) state kind (length weights.now); state = addState (length arena.old) state kind (length weights.now) } }
-    ensures arena { arena.new ≡ addArena arena.old state kind weights.now }
+    ensures step { result ≡ record { answer = add_answer (length arena.old) state kind (length weights.now); state = add_state (length arena.old) state kind (length weights.now) } }
+    ensures arena { arena.new ≡ add_arena arena.old state kind weights.now }
 {
     let answer = judge(arena.len(), state, kind, weights.len());
     let Answer::Part { first, .. } = answer else {
@@ -67,7 +67,7 @@ pub fn add(arena: &mut [f32], state: State, kind: usize, weights: &[f32]) -> Ste
 
 // Whether a kind is held in an arena of n places, and where.
 fn find(n: usize, state: State, kind: usize) -> Answer
-    ensures { result ≡ findAnswer n state kind }
+    ensures { result ≡ find_answer n state kind }
 {
     if !lent_right(n, state, kind) {
         return Answer::Lent;
@@ -87,7 +87,7 @@ fn find(n: usize, state: State, kind: usize) -> Answer
 
 // Whether a kind is held, and where.
 pub fn lookup_reply(arena: &[f32], state: State, kind: usize) -> Answer
-    ensures { result ≡ findAnswer (length arena.now) state kind }
+    ensures { result ≡ find_answer (length arena.now) state kind }
 {
     find(arena.len(), state, kind)
 }
@@ -105,8 +105,8 @@ pub fn lookup<'a>(arena: &'a [f32], state: State, kind: usize) -> &'a [f32]
 
 // A kind goes: the later ones move down, and the places that come free at the end become 0.
 pub fn drop_kind(arena: &mut [f32], state: State, kind: usize) -> Step
-    ensures step { result ≡ record { answer = dropAnswer (length arena.old) state kind; state = dropState (length arena.old) state kind } }
-    ensures arena { arena.new ≡ dropArena arena.old state kind }
+    ensures step { result ≡ record { answer = drop_answer (length arena.old) state kind; state = drop_state (length arena.old) state kind } }
+    ensures arena { arena.new ≡ drop_arena arena.old state kind }
 {
     let found = find(arena.len(), state, kind);
     let Answer::Part { first, length } = found else {

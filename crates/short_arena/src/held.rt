@@ -1,8 +1,8 @@
 // The kinds that a short arena holds.
 ghost use Rattle.std.specs.Prelude.{◌≡◌, true, [], ◌∷◌, ◌++◌, ◌≤◌, ◌<◌, length, drop};
-ghost use Rattle.short_arena.specs.Held.{held_of, state_of, is_held, single, placesIn, start_in, without};
-ghost use Rattle.transform.specs.Zeros.{allZero};
-ghost use Rattle.short_arena.specs.Short.{lentRight};
+ghost use Rattle.short_arena.specs.Held.{held_of, state_of, is_held, single, places_in, start_in, without};
+ghost use Rattle.transform.specs.Zeros.{all_zero};
+ghost use Rattle.short_arena.specs.Short.{lent_right};
 
 use transform::Kind;
 
@@ -47,7 +47,7 @@ fn are_single(held: &[usize]) -> bool
 // The places that they need.
 pub(crate) fn places_in(held: &[usize]) -> usize
     requires { length held.now ≤ 17 }
-    ensures { result ≡ placesIn held.now }
+    ensures { result ≡ places_in held.now }
 {
     let mut sum = 0;
     let mut i = 0;
@@ -79,7 +79,7 @@ pub(crate) fn start_in(held: &[usize], kind: usize) -> usize
 
 // Whether nothing but 0 stands there.
 fn all_zero(l: &[usize]) -> bool
-    ensures { result ≡ allZero l.now }
+    ensures { result ≡ all_zero l.now }
 {
     let mut i = 0;
     while i < l.len() {
@@ -93,7 +93,7 @@ fn all_zero(l: &[usize]) -> bool
 
 // Whether a kind is asked for, in an arena of n places and with a state that such an arena can have.
 pub(crate) fn lent_right(n: usize, state: State, kind: usize) -> bool
-    ensures { result ≡ lentRight n state kind }
+    ensures { result ≡ lent_right n state kind }
 {
     if kind >= Kind::COUNT {
         return false;
@@ -118,7 +118,7 @@ pub(crate) fn lent_right(n: usize, state: State, kind: usize) -> bool
 
 // One kind more.
 pub(crate) fn with_kind(state: State, kind: usize) -> State
-    requires { (state.count < 17) × (allZero (drop state.count state.kinds) ≡ true) }
+    requires { (state.count < 17) × (all_zero (drop state.count state.kinds) ≡ true) }
     ensures { result ≡ state_of (held_of state ++ kind ∷ []) }
 {
     let count = state.count;

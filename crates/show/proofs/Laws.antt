@@ -6,35 +6,35 @@ use Rattle.show.specs.Input.{first_of}
 use Rattle.show.specs.Filled.{stored, modulo}
 
 -- fewer than n
-pub first-none : {A : Type 0} (n : ℕ) (l : List A) → length l < n → [] ≡ first_of n l
+pub first_none : {A : Type 0} (n : ℕ) (l : List A) → length l < n → [] ≡ first_of n l
 unfolding first_of
-first-none n l h = rw (first_of, lt-leb n (length l) h)
+first_none n l h = rw (first_of, lt-leb n (length l) h)
 
 -- the part of a slice that starts at 0
 pub first_some : {A : Type 0} (n : ℕ) (l : List A) → n ≤ length l → take (n - 0) l ≡ first_of n l
 unfolding first_of
 first_some n l h = rw (first_of, le-leb n (length l) h) (ap (λ (k : ℕ). take k l) (sub-zero n))
 
-pub modulo-some : (x m : ℕ) → 0 < m → x % m ≡ modulo x m
+pub modulo_some : (x m : ℕ) → 0 < m → x % m ≡ modulo x m
 unfolding modulo
-modulo-some x zero h = absurd (omega arith)
-modulo-some x (suc m) h = refl
+modulo_some x zero h = absurd (omega arith)
+modulo_some x (suc m) h = refl
 
-pub modulo-none : (x m : ℕ) → m ≤ 0 → 0 ≡ modulo x m
+pub modulo_none : (x m : ℕ) → m ≤ 0 → 0 ≡ modulo x m
 unfolding modulo
-modulo-none x zero h = refl
-modulo-none x (suc m) h = absurd (omega arith)
+modulo_none x zero h = refl
+modulo_none x (suc m) h = absurd (omega arith)
 
-pub modulo-start : (step m : ℕ) → 0 ≡ modulo (0 * step) m
+pub modulo_start : (step m : ℕ) → 0 ≡ modulo (0 * step) m
 unfolding modulo
-modulo-start step zero = refl
-modulo-start step (suc m) = sym (rw (zero-mul step) (zero-mod (suc m)))
+modulo_start step zero = refl
+modulo_start step (suc m) = sym (rw (zero-mul step) (zero-mod (suc m)))
 
 -- one step more
-pub modulo-more : (p step m : ℕ) → modulo (modulo (p * step) m + step) m ≡ modulo ((p + 1) * step) m
+pub modulo_more : (p step m : ℕ) → modulo (modulo (p * step) m + step) m ≡ modulo ((p + 1) * step) m
 unfolding modulo
-modulo-more p step zero = refl
-modulo-more p step (suc m) = mod-add-mod (p * step) (suc m) step ∙ ap (λ (x : ℕ). x % suc m) (sym (add-mul p 1 step ∙ ap (λ (x : ℕ). p * step + x) (one-mul step)))
+modulo_more p step zero = refl
+modulo_more p step (suc m) = mod-add-mod (p * step) (suc m) step ∙ ap (λ (x : ℕ). x % suc m) (sym (add-mul p 1 step ∙ ap (λ (x : ℕ). p * step + x) (one-mul step)))
 
 -- one store more
 pub stored_more : {A : Type 0} (at : ℕ → ℕ) (what : ℕ → A) (j : ℕ) (l m : List A) (i : ℕ) (a : A) → m ≡ stored at what j l → i ≡ at j → a ≡ what j → set m i a ≡ stored at what (j + 1) l
@@ -42,5 +42,5 @@ unfolding stored
 stored_more at what j l m i a e f g = rw (add-one, e, f, g)
 
 -- a part by where it begins and its length
-pub part-is : (s : List ℕ) {t r : List ℕ} {a b n m : ℕ} → r ≡ first_of n t → t ≡ drop a s → a ≡ b → n ≡ m → r ≡ first_of m (drop b s)
-part-is s e f g h = rw (e, f, g, h)
+pub part_is : (s : List ℕ) {t r : List ℕ} {a b n m : ℕ} → r ≡ first_of n t → t ≡ drop a s → a ≡ b → n ≡ m → r ≡ first_of m (drop b s)
+part_is s e f g h = rw (e, f, g, h)

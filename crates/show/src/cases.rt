@@ -2,7 +2,7 @@
 // that its program names. A case is known by the byte at which it begins.
 ghost use Rattle.std.specs.Prelude.{◌≡◌, replicate};
 ghost use Rattle.show.specs.Input.{field_at, named_at, listed_at};
-ghost use Rattle.show.specs.Filled.{rowsWith, samplesBy};
+ghost use Rattle.show.specs.Filled.{rows_with, samples_by};
 
 use crate::filled::{fill_rows, fill_samples};
 use crate::parts::{first, rest};
@@ -41,7 +41,7 @@ pub fn listed<'a>(s: &'a [u8], at: usize, j: u32) -> &'a [u8]
 
 // Rows of 0 but for the numbers that a case lists.
 pub fn rows_listed(s: &[u8], at: usize, j: u32) -> [u16; 2304]
-    ensures { result ≡ rowsWith (listed_at s.now at j) (replicate 2304 0) }
+    ensures { result ≡ rows_with (listed_at s.now at j) (replicate 2304 0) }
 {
     let mut rows = [0u16; 2304];
     fill_rows(listed(s, at, j), &mut rows);
@@ -50,7 +50,7 @@ pub fn rows_listed(s: &[u8], at: usize, j: u32) -> [u16; 2304]
 
 // The samples by the rule of a case: base, step and modulus are its words 4, 5 and 6.
 pub fn fill_by_rule(samples: &mut [i32], s: &[u8], at: usize)
-    ensures { samples.new ≡ samplesBy (field_at s.now at 4) (field_at s.now at 5) (field_at s.now at 6) samples.old }
+    ensures { samples.new ≡ samples_by (field_at s.now at 4) (field_at s.now at 5) (field_at s.now at 6) samples.old }
 {
     let base = field_bits(s, at, 4);
     let step = field_bits(s, at, 5);

@@ -2,7 +2,7 @@
 ghost use Rattle.std.specs.Prelude.{◌≡◌, ◌+◌, ◌/◌, ◌%◌, slice_set};
 ghost use Rattle.std.specs.Int.{w32};
 ghost use Rattle.std.proofs.Common.{to_z};
-ghost use Rattle.show.specs.Filled.{rowsWith, modulo, samplesBy};
+ghost use Rattle.show.specs.Filled.{rows_with, modulo, samples_by};
 
 use crate::words::word;
 
@@ -18,7 +18,7 @@ fn put(rows: &mut [u16], both: u32)
 
 // The numbers of rows that the list has, each with its place in one word.
 pub(crate) fn fill_rows(list: &[u8], rows: &mut [u16])
-    ensures { rows.new ≡ rowsWith list.now rows.old }
+    ensures { rows.new ≡ rows_with list.now rows.old }
 {
     let n = list.len() / 4;
     let mut j = 0;
@@ -51,7 +51,7 @@ fn stepped(rest: u32, step: u32, modulus: u32) -> u32
 
 // Sample p is base + (p x step mod modulus), by 2^32; with modulus 0 all are the base.
 pub fn fill_samples(samples: &mut [i32], base: u32, step: u32, modulus: u32)
-    ensures { samples.new ≡ samplesBy base step modulus samples.old }
+    ensures { samples.new ≡ samples_by base step modulus samples.old }
 {
     let mut p = 0;
     let mut rest: u32 = 0;

@@ -3,7 +3,7 @@
 // What is written no contract can say: a function that only writes returns nothing and is lent nothing to change, so there is nothing to
 // fix, and it has none. Each function is proved safe and ending.
 ghost use Rattle.std.specs.Prelude.{◌≡◌, ◌<◌, ◌≤◌, length};
-ghost use Rattle.show.specs.Refused.{refusedIs};
+ghost use Rattle.show.specs.Refused.{refused_is};
 
 use libc::STDOUT_FILENO;
 use params::Reading;
@@ -98,7 +98,7 @@ pub fn kind(kind: usize) {
 
 // Whether a reading is refused. A raw entry is refused too: its samples aren't here.
 pub fn is_refused(r: Reading) -> bool
-    ensures { result ≡ refusedIs r }
+    ensures { result ≡ refused_is r }
 {
     match r {
         Reading::Done { next: _ } => false,

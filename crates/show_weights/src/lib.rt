@@ -1,13 +1,13 @@
 // What programs write of weights. Which functions have a contract: see the head of `show`.
 ghost use Rattle.std.specs.Prelude.{◌≡◌};
-ghost use Rattle.total.specs.Total.{totalFrom};
+ghost use Rattle.total.specs.Total.{total_from};
 
 use libc::STDOUT_FILENO;
 
 // The total of weights whose first place is 0, of any number of them: from the last place on, each weight's bits are in the
 // running sum once for each place up to its own.
 pub fn total(part: &[f32]) -> u64
-    ensures { result ≡ totalFrom 0 part.now }
+    ensures { result ≡ total_from 0 part.now }
 {
     let mut running: u64 = 0;
     let mut sum: u64 = 0;

@@ -5,21 +5,21 @@ use Rattle.std.specs.Float.{binary32}
 use Rattle.transform.specs.Kinds.{spliced}
 
 -- weights ws in the place of as many, from `at` on
-abbrev pub laidAt : {A : Type 0} → ℕ → List A → List A → List A
-laidAt at ws l = spliced at (at + length ws) ws l
+abbrev pub laid_at : {A : Type 0} → ℕ → List A → List A → List A
+laid_at at ws l = spliced at (at + length ws) ws l
 
 -- what stands from `at` up to `end` once the first n of it are gone: those behind them, moved down, and z in the n places that came free
-abbrev pub movedDown : {A : Type 0} → A → ℕ → ℕ → ℕ → List A → List A
-movedDown z at n end l = take (end - (at + n)) (drop (at + n) l) ++ replicate n z
+abbrev pub moved_down : {A : Type 0} → A → ℕ → ℕ → ℕ → List A → List A
+moved_down z at n end l = take (end - (at + n)) (drop (at + n) l) ++ replicate n z
 
 -- of the first `end` places n gone, from `at` on
-abbrev pub closedAt : {A : Type 0} → A → ℕ → ℕ → ℕ → List A → List A
-closedAt z at n end l = spliced at end (movedDown z at n end l) l
+abbrev pub closed_at : {A : Type 0} → A → ℕ → ℕ → ℕ → List A → List A
+closed_at z at n end l = spliced at end (moved_down z at n end l) l
 
 -- what laying in leaves: where the weights don't fit, the slice as it was
-unfoldable pub putLeaves : List Float → ℕ → List Float → List Float
-putLeaves l at ws = cond (leb (at + length ws) (length l)) (laidAt at ws l) l
+unfoldable pub put_leaves : List Float → ℕ → List Float → List Float
+put_leaves l at ws = cond (leb (at + length ws) (length l)) (laid_at at ws l) l
 
 -- what closing up leaves, 0 in the places that came free: where there are no such places, the slice as it was
-unfoldable pub closeLeaves : List Float → ℕ → ℕ → ℕ → List Float
-closeLeaves l at n end = cond (leb (at + n) end && leb end (length l)) (closedAt (of_bits binary32 0) at n end l) l
+unfoldable pub close_leaves : List Float → ℕ → ℕ → ℕ → List Float
+close_leaves l at n end = cond (leb (at + n) end && leb end (length l)) (closed_at (of_bits binary32 0) at n end l) l

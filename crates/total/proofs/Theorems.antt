@@ -8,13 +8,13 @@ use lib.Ieee.{Float, nan, fin, binary32, fits, to_bits, of_bits}
 use lib.Ieee.Bits.{to_bits-lt}
 use Rattle.transform.specs.Kinds.{places_of, start_of, part, laid}
 use Rattle.transform.proofs.Chain.{left, right}
-use Rattle.transform.proofs.PartLaws.{part_length, laid-own, before-length, laid-length}
+use Rattle.transform.proofs.PartLaws.{part_length, laid_own, before_length, laid_length}
 use Rattle.total.specs.declared.Total.{Total}
 use Rattle.total.specs.declared.Total.TheVariants.{Done, Lent}
-use Rattle.total.specs.Total.{sumFrom, totalFrom, total_of, totalAnswer, replaced, replaceAnswer, replaceArena}
+use Rattle.total.specs.Total.{sum_from, total_from, total_of, total_answer, replaced, replace_answer, replace_arena}
 use Rattle.total.specs.Sums.{Grouped, one, both, added, numbers, sum, stretches, Share}
-use Rattle.total.proofs.Laws.{product_le, sum-append}
-use Rattle.total.proofs.Answers.{counted, right-weights, replace-done, arena-laid}
+use Rattle.total.proofs.Laws.{product_le, sum_append}
+use Rattle.total.proofs.Answers.{counted, right_weights, replace_done, arena_laid}
 
 -- ---- no product of a weight's bits and its place plus 1 wraps round, at any place of an arena
 pub no_wrap : (x : Float) (p : ℕ) → T (fits binary32 x) → p < 394752 → to_bits binary32 x * (p + 1) < 2 ^ 64
@@ -22,16 +22,16 @@ no_wrap x p f h = let e = product_le (to_bits binary32 x) (p + 1) (to_bits-lt bi
 
 -- ---- a stretch's total is that of two neighbouring ones that make it up, added with wrap
 pub neighbours : (a : List Float) (first m n : ℕ) → first + m ≤ length a → total_of a first (m + n) ≡ (total_of a first m + total_of a (first + m) n) % 2 ^ 64
-unfolding totalFrom
+unfolding total_from
 neighbours a first m n h =
     let d = length-drop first a in
     let l : length (take m (drop first a)) ≡ m = length-take-le m (drop first a) (omega arith) in
-    ap (λ (x : List Float). sumFrom first x % 2 ^ 64) (take-add m n (drop first a))
+    ap (λ (x : List Float). sum_from first x % 2 ^ 64) (take-add m n (drop first a))
     ∙ ap (λ (x : ℕ). x % 2 ^ 64)
-    (sum-append first (take m (drop first a)) (take n (drop m (drop first a)))
-    ∙ ap (λ (i : ℕ). sumFrom first (take m (drop first a)) + sumFrom (first + i) (take n (drop m (drop first a)))) l
-    ∙ ap (λ (x : List Float). sumFrom first (take m (drop first a)) + sumFrom (first + m) (take n x)) (drop-drop m first a))
-    ∙ add-mod (sumFrom first (take m (drop first a))) (sumFrom (first + m) (take n (drop (first + m) a))) (2 ^ 64)
+    (sum_append first (take m (drop first a)) (take n (drop m (drop first a)))
+    ∙ ap (λ (i : ℕ). sum_from first (take m (drop first a)) + sum_from (first + i) (take n (drop m (drop first a)))) l
+    ∙ ap (λ (x : List Float). sum_from first (take m (drop first a)) + sum_from (first + m) (take n x)) (drop-drop m first a))
+    ∙ add-mod (sum_from first (take m (drop first a))) (sum_from (first + m) (take n (drop (first + m) a))) (2 ^ 64)
 
 -- what the answer DONE says
 record Counted (a : List Float) (first count t : ℕ) : Type 0 where
@@ -39,17 +39,17 @@ record Counted (a : List Float) (first count t : ℕ) : Type 0 where
   within : first + count ≤ 394752
   total : total_of a first count ≡ t
 
-done-counts : (a : List Float) (first count t : ℕ) → totalAnswer a first count ≡ Done t → Counted a first count t
-unfolding totalAnswer
-done-counts a first count t = go (eqb (length a) 394752 && leb (first + count) 394752) refl
+done_counts : (a : List Float) (first count t : ℕ) → total_answer a first count ≡ Done t → Counted a first count t
+unfolding total_answer
+done_counts a first count t = go (eqb (length a) 394752 && leb (first + count) 394752) refl
   where
     told : Total → ℕ
     told (Done t) = t
     told Lent = 0
 
-    is-done : Total → Bool
-    is-done (Done t) = true
-    is-done Lent = false
+    is_done_lem : Total → Bool
+    is_done_lem (Done t) = true
+    is_done_lem Lent = false
 
     go : (b : Bool) → (eqb (length a) 394752 && leb (first + count) 394752) ≡ b → cond b (Done (total_of a first count)) Lent ≡ Done t → Counted a first count t
     go true e f =
@@ -58,13 +58,13 @@ done-counts a first count t = go (eqb (length a) 394752 && leb (first + count) 3
           within = leb-true (first + count) 394752 (right (eqb (length a) 394752) (leb (first + count) 394752) e);
           total = ap told f;
         }
-    go false e f = absurd (true≢false (sym (ap is-done f)))
+    go false e f = absurd (true≢false (sym (ap is_done_lem f)))
 
 -- the same of the calls: two stretches counted, and the one that they make up
-pub neighbours-counted : (a : List Float) (first m n s t : ℕ) → totalAnswer a first m ≡ Done s → totalAnswer a (first + m) n ≡ Done t → totalAnswer a first (m + n) ≡ Done ((s + t) % 2 ^ 64)
-neighbours-counted a first m n s t e f =
-    let x = done-counts a first m s e in
-    let y = done-counts a (first + m) n t f in
+pub neighbours_counted : (a : List Float) (first m n s t : ℕ) → total_answer a first m ≡ Done s → total_answer a (first + m) n ≡ Done t → total_answer a first (m + n) ≡ Done ((s + t) % 2 ^ 64)
+neighbours_counted a first m n s t e f =
+    let x = done_counts a first m s e in
+    let y = done_counts a (first + m) n t f in
     sym
     (counted a first (m + n) ((s + t) % 2 ^ 64) x.arena (omega (arith, y.within))
     (sym (neighbours a first m n (omega (arith, x.within, x.arena)) ∙ ap (λ (i : ℕ). (i + total_of a (first + m) n) % 2 ^ 64) x.total ∙ ap (λ (i : ℕ). (s + i) % 2 ^ 64) y.total)))
@@ -93,7 +93,7 @@ pub any_way : (g h : Grouped) → Permᴰ (numbers g) (numbers h) → added g �
 any_way g h o = grouped g ∙ ap (λ (x : ℕ). x % 2 ^ 64) (ordered o) ∙ sym (grouped h)
 
 cut_up : (a : List Float) (first : ℕ) (ns : List ℕ) → first + sum ns ≤ length a → total_of a first (sum ns) ≡ sum (stretches a first ns) % 2 ^ 64
-unfolding totalFrom sumFrom
+unfolding total_from sum_from
 cut_up a first [] h = refl
 cut_up a first (n ∷ ns) h =
     neighbours a first n (sum ns) (omega arith)
@@ -101,8 +101,8 @@ cut_up a first (n ∷ ns) h =
     ∙ add-mod-mod (total_of a first n) (sum (stretches a (first + n) ns)) (2 ^ 64)
 
 -- a stretch cut up anywhere: the totals of its pieces, in any grouping and order, add up to its own
-pub stretches-add : (a : List Float) (first : ℕ) (ns : List ℕ) (g : Grouped) → first + sum ns ≤ length a → Permᴰ (numbers g) (stretches a first ns) → added g ≡ total_of a first (sum ns)
-stretches-add a first ns g h o = grouped g ∙ ap (λ (x : ℕ). x % 2 ^ 64) (ordered o) ∙ sym (cut_up a first ns h)
+pub stretches_add : (a : List Float) (first : ℕ) (ns : List ℕ) (g : Grouped) → first + sum ns ≤ length a → Permᴰ (numbers g) (stretches a first ns) → added g ≡ total_of a first (sum ns)
+stretches_add a first ns g h o = grouped g ∙ ap (λ (x : ℕ). x % 2 ^ 64) (ordered o) ∙ sym (cut_up a first ns h)
 
 -- ---- a replacement
 -- of a sum x + (p + c), with wrap, p taken off and q added
@@ -122,61 +122,61 @@ exchanged m x p c q h =
     regroup a b c = omega arith
 
 -- the total of a whole arena
-whole : (a : List Float) → length a ≡ 394752 → total_of a 0 394752 ≡ sumFrom 0 a % 2 ^ 64
-unfolding totalFrom
-whole a e = ap (λ (l : List Float). sumFrom 0 l % 2 ^ 64) (take_all 394752 a (le_of_eq e))
+whole : (a : List Float) → length a ≡ 394752 → total_of a 0 394752 ≡ sum_from 0 a % 2 ^ 64
+unfolding total_from
+whole a e = ap (λ (l : List Float). sum_from 0 l % 2 ^ 64) (take_all 394752 a (le_of_eq e))
 
 module _ (a : List Float) (k : ℕ) (e : length a ≡ 394752) where
   -- the sum over an arena with x in the place of kind k's part
   with_part : (x : List Float) → length x ≡ places_of k
-      → sumFrom 0 (laid k x a) ≡ sumFrom 0 (take (start_of k) a) + (sumFrom (start_of k) x + sumFrom (start_of k + places_of k) (drop (start_of k + places_of k) a))
+      → sum_from 0 (laid k x a) ≡ sum_from 0 (take (start_of k) a) + (sum_from (start_of k) x + sum_from (start_of k + places_of k) (drop (start_of k + places_of k) a))
   with_part x l =
-      let s : 0 + length (take (start_of k) a) ≡ start_of k = (let t = before-length k a e in omega arith) in
-      sum-append 0 (take (start_of k) a) (x ++ drop (start_of k + places_of k) a)
-      ∙ ap (λ (i : ℕ). sumFrom 0 (take (start_of k) a) + sumFrom i (x ++ drop (start_of k + places_of k) a)) s
-      ∙ ap (λ (i : ℕ). sumFrom 0 (take (start_of k) a) + i)
-      (sum-append (start_of k) x (drop (start_of k + places_of k) a)
-      ∙ ap (λ (i : ℕ). sumFrom (start_of k) x + sumFrom (start_of k + i) (drop (start_of k + places_of k) a)) l)
+      let s : 0 + length (take (start_of k) a) ≡ start_of k = (let t = before_length k a e in omega arith) in
+      sum_append 0 (take (start_of k) a) (x ++ drop (start_of k + places_of k) a)
+      ∙ ap (λ (i : ℕ). sum_from 0 (take (start_of k) a) + sum_from i (x ++ drop (start_of k + places_of k) a)) s
+      ∙ ap (λ (i : ℕ). sum_from 0 (take (start_of k) a) + i)
+      (sum_append (start_of k) x (drop (start_of k + places_of k) a)
+      ∙ ap (λ (i : ℕ). sum_from (start_of k) x + sum_from (start_of k + i) (drop (start_of k + places_of k) a)) l)
 
   -- the arena's total with one kind's weights replaced is what a fresh count gives
-  pub replaced-fresh : (ws : List Float) → length ws ≡ places_of k → replaced (total_of a 0 394752) k (part k a) ws ≡ total_of (laid k ws a) 0 394752
-  unfolding replaced totalFrom
-  replaced-fresh ws l =
-      let x = sumFrom 0 (take (start_of k) a) in
-      let c = sumFrom (start_of k + places_of k) (drop (start_of k + places_of k) a) in
-      let p = sumFrom (start_of k) (part k a) in
-      let q = sumFrom (start_of k) ws in
-      let old : total_of a 0 394752 ≡ (x + (p + c)) % 2 ^ 64 = whole a e ∙ ap (λ (i : ℕ). i % 2 ^ 64) (ap (sumFrom 0) (sym (laid-own k a)) ∙ with_part (part k a) (part_length k a e)) in
-      let new : total_of (laid k ws a) 0 394752 ≡ (x + (q + c)) % 2 ^ 64 = whole (laid k ws a) (laid-length k ws a e l) ∙ ap (λ (i : ℕ). i % 2 ^ 64) (with_part ws l) in
+  pub replaced_fresh : (ws : List Float) → length ws ≡ places_of k → replaced (total_of a 0 394752) k (part k a) ws ≡ total_of (laid k ws a) 0 394752
+  unfolding replaced total_from
+  replaced_fresh ws l =
+      let x = sum_from 0 (take (start_of k) a) in
+      let c = sum_from (start_of k + places_of k) (drop (start_of k + places_of k) a) in
+      let p = sum_from (start_of k) (part k a) in
+      let q = sum_from (start_of k) ws in
+      let old : total_of a 0 394752 ≡ (x + (p + c)) % 2 ^ 64 = whole a e ∙ ap (λ (i : ℕ). i % 2 ^ 64) (ap (sum_from 0) (sym (laid_own k a)) ∙ with_part (part k a) (part_length k a e)) in
+      let new : total_of (laid k ws a) 0 394752 ≡ (x + (q + c)) % 2 ^ 64 = whole (laid k ws a) (laid_length k ws a e l) ∙ ap (λ (i : ℕ). i % 2 ^ 64) (with_part ws l) in
       ap (λ (t : ℕ). ((t + (2 ^ 64 - p % 2 ^ 64)) % 2 ^ 64 + q % 2 ^ 64) % 2 ^ 64) old
       ∙ exchanged (2 ^ 64) x p c q (lit< tt)
       ∙ sym new
 
   -- of the calls: begun with the arena's total, `replace_kind` says what `stretch_total` then says of the whole arena that it leaves
-  pub replaced-counts : (ws : List Float) → k < 17 → length ws ≡ places_of k → replaceAnswer a (total_of a 0 394752) k ws ≡ totalAnswer (replaceArena a k ws) 0 394752
-  replaced-counts ws h l =
-      let r = sym (right-weights (length a) k (length ws) (places_of k) e h refl) ∙ eq-eqb (length ws) (places_of k) l in
-      sym (replace-done a k ws (total_of a 0 394752) (total_of (laid k ws a) 0 394752) r (sym (replaced-fresh ws l)))
-      ∙ counted (laid k ws a) 0 394752 (total_of (laid k ws a) 0 394752) (laid-length k ws a e l) (omega arith) refl
-      ∙ ap (λ (b : List Float). totalAnswer b 0 394752) (arena-laid a k ws r)
+  pub replaced_counts : (ws : List Float) → k < 17 → length ws ≡ places_of k → replace_answer a (total_of a 0 394752) k ws ≡ total_answer (replace_arena a k ws) 0 394752
+  replaced_counts ws h l =
+      let r = sym (right_weights (length a) k (length ws) (places_of k) e h refl) ∙ eq-eqb (length ws) (places_of k) l in
+      sym (replace_done a k ws (total_of a 0 394752) (total_of (laid k ws a) 0 394752) r (sym (replaced_fresh ws l)))
+      ∙ counted (laid k ws a) 0 394752 (total_of (laid k ws a) 0 394752) (laid_length k ws a e l) (omega arith) refl
+      ∙ ap (λ (b : List Float). total_answer b 0 394752) (arena_laid a k ws r)
 
 -- ---- two arenas may share a total
 abbrev nought : Float
 nought = fin false 0 (pos 0)
 
-noughts : (p n : ℕ) → sumFrom p (replicate n nought) ≡ 0
-unfolding sumFrom to_bits
+noughts : (p n : ℕ) → sum_from p (replicate n nought) ≡ 0
+unfolding sum_from to_bits
 noughts p zero = refl
 noughts p (suc n) = omega (arith, noughts (p + 1) n)
 
 share : (n : ℕ) → n + 2 ≡ 394752 → Share (of_bits binary32 2 ∷ nought ∷ replicate n nought) (nought ∷ of_bits binary32 1 ∷ replicate n nought)
-unfolding sumFrom to_bits of_bits
+unfolding sum_from to_bits of_bits
 share n e =
     let l = length-replicate n nought in
     let z = noughts 2 n in
     let f : length (of_bits binary32 2 ∷ nought ∷ replicate n nought) ≡ 394752 = omega arith in
     let g : length (nought ∷ of_bits binary32 1 ∷ replicate n nought) ≡ 394752 = omega arith in
-    let s : sumFrom 0 (of_bits binary32 2 ∷ nought ∷ replicate n nought) ≡ sumFrom 0 (nought ∷ of_bits binary32 1 ∷ replicate n nought) = omega arith in
+    let s : sum_from 0 (of_bits binary32 2 ∷ nought ∷ replicate n nought) ≡ sum_from 0 (nought ∷ of_bits binary32 1 ∷ replicate n nought) = omega arith in
     record {
       first = f;
       second = g;
@@ -185,5 +185,5 @@ share n e =
     }
 
 -- the bits 2 at the first place count as much as the bits 1 at the second
-pub may-share : Share (of_bits binary32 2 ∷ nought ∷ replicate 394750 nought) (nought ∷ of_bits binary32 1 ∷ replicate 394750 nought)
-may-share = share 394750 refl
+pub may_share : Share (of_bits binary32 2 ∷ nought ∷ replicate 394750 nought) (nought ∷ of_bits binary32 1 ∷ replicate 394750 nought)
+may_share = share 394750 refl

@@ -7,41 +7,41 @@ use Rattle.total.specs.declared.Total.{Total}
 use Rattle.total.specs.declared.Total.TheVariants.{Done, Lent}
 
 -- the number of a reply, and its values
-abbrev pub totalReply : Total → List ℕ
-totalReply (Done total) = 0 ∷ total ∷ []
-totalReply Lent = 1 ∷ []
+abbrev pub total_reply : Total → List ℕ
+total_reply (Done total) = 0 ∷ total ∷ []
+total_reply Lent = 1 ∷ []
 
 -- of weights whose first place is p: the bits of each times its place plus 1, summed up
-unfoldable pub sumFrom : ℕ → List Float → ℕ
-sumFrom p [] = 0
-sumFrom p (x ∷ l) = to_bits binary32 x * (p + 1) + sumFrom (p + 1) l
+unfoldable pub sum_from : ℕ → List Float → ℕ
+sum_from p [] = 0
+sum_from p (x ∷ l) = to_bits binary32 x * (p + 1) + sum_from (p + 1) l
 
 -- their total: that sum, wrapping round
-unfoldable pub totalFrom : ℕ → List Float → ℕ
-totalFrom p l = sumFrom p l % 2 ^ 64
+unfoldable pub total_from : ℕ → List Float → ℕ
+total_from p l = sum_from p l % 2 ^ 64
 
 -- the total of a stretch of an arena: of `count` places from `first` on
 abbrev pub total_of : List Float → ℕ → ℕ → ℕ
-total_of a first count = totalFrom first (take count (drop first a))
+total_of a first count = total_from first (take count (drop first a))
 
 -- counting a stretch: LENT unless the arena has 394,752 places and the stretch lies within them
-unfoldable pub totalAnswer : List Float → ℕ → ℕ → Total
-totalAnswer a first count =
+unfoldable pub total_answer : List Float → ℕ → ℕ → Total
+total_answer a first count =
     cond (length a == 394752 && nat_le (first + count) 394752) (Done (total_of a first count)) Lent
 
 -- an arena of n places, a kind and m weights to replace its part by are lent right
-unfoldable pub partRight : ℕ → ℕ → ℕ → Bool
-partRight n k m = n == 394752 && (nat_lt k 17 && m == places_of k)
+unfoldable pub part_right : ℕ → ℕ → ℕ → Bool
+part_right n k m = n == 394752 && (nat_lt k 17 && m == places_of k)
 
 -- a total less that of kind k's old weights, plus that of its new ones, wrapping round each time
 unfoldable pub replaced : ℕ → ℕ → List Float → List Float → ℕ
 replaced t k old new =
-    ((t + (2 ^ 64 - totalFrom (start_of k) old)) % 2 ^ 64 + totalFrom (start_of k) new) % 2 ^ 64
+    ((t + (2 ^ 64 - total_from (start_of k) old)) % 2 ^ 64 + total_from (start_of k) new) % 2 ^ 64
 
 -- replacing a kind's weights: LENT unless they are lent right
-unfoldable pub replaceAnswer : List Float → ℕ → ℕ → List Float → Total
-replaceAnswer a t k ws = cond (partRight (length a) k (length ws)) (Done (replaced t k (part k a) ws)) Lent
+unfoldable pub replace_answer : List Float → ℕ → ℕ → List Float → Total
+replace_answer a t k ws = cond (part_right (length a) k (length ws)) (Done (replaced t k (part k a) ws)) Lent
 
 -- the arena after it
-unfoldable pub replaceArena : List Float → ℕ → List Float → List Float
-replaceArena a k ws = cond (partRight (length a) k (length ws)) (laid k ws a) a
+unfoldable pub replace_arena : List Float → ℕ → List Float → List Float
+replace_arena a k ws = cond (part_right (length a) k (length ws)) (laid k ws a) a

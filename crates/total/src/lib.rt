@@ -1,7 +1,7 @@
 // The total beside an arena: one 64-bit number for its weights, wrapping round.
 ghost use Rattle.std.specs.Prelude.{◌≡◌, ◌+◌, ◌≤◌, length, to_bits};
 ghost use Rattle.std.specs.Float.{binary32};
-ghost use Rattle.total.specs.Total.{totalFrom, totalAnswer, partRight, replaceAnswer, replaceArena};
+ghost use Rattle.total.specs.Total.{total_from, total_answer, part_right, replace_answer, replace_arena};
 
 use transform::Kind;
 
@@ -28,7 +28,7 @@ pub fn bits(x: f32) -> u32
 // The total of a part whose first place is `first`. No product wraps round, their sum may.
 fn part_total(part: &[f32], first: usize) -> u64
     requires { first + length part.now ≤ 394752 }
-    ensures { result ≡ totalFrom first part.now }
+    ensures { result ≡ total_from first part.now }
 {
     let mut total: u64 = 0;
     let mut i = 0;
@@ -43,7 +43,7 @@ fn part_total(part: &[f32], first: usize) -> u64
 
 // The total of a stretch: of `count` places from `first` on. LENT for another arena, or a stretch that leaves it.
 pub fn stretch_total(arena: &[f32], first: usize, count: usize) -> Total
-    ensures { result ≡ totalAnswer arena.now first count }
+    ensures { result ≡ total_answer arena.now first count }
 {
     if arena.len() != Kind::ARENA {
         return Total::Lent;
@@ -62,7 +62,7 @@ pub fn stretch_total(arena: &[f32], first: usize, count: usize) -> Total
 
 // Whether an arena of n places, a kind and m weights to replace its part by are lent right.
 fn part_right(n: usize, kind: usize, m: usize) -> bool
-    ensures { result ≡ partRight n kind m }
+    ensures { result ≡ part_right n kind m }
 {
     let k = Kind { no: kind };
     n == Kind::ARENA && (kind < Kind::COUNT && m == k.arena_length())
@@ -70,8 +70,8 @@ fn part_right(n: usize, kind: usize, m: usize) -> bool
 
 // A kind's weights replaced, and the arena's total with them. LENT leaves the arena as it was.
 pub fn replace_kind(arena: &mut [f32], total: u64, kind: usize, weights: &[f32]) -> Total
-    ensures answer { result ≡ replaceAnswer arena.old total kind weights.now }
-    ensures arena { arena.new ≡ replaceArena arena.old kind weights.now }
+    ensures answer { result ≡ replace_answer arena.old total kind weights.now }
+    ensures arena { arena.new ≡ replace_arena arena.old kind weights.now }
 {
     if !part_right(arena.len(), kind, weights.len()) {
         return Total::Lent;

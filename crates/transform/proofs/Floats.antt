@@ -5,8 +5,8 @@ use lib.Dec.{T}
 use lib.Ieee.{Float, nan, inf, fin, is_nan, ne}
 
 -- what does not is no NaN
-pub same-is-number : (x : Float) → ne x x ≡ false → T (not (is_nan x))
+pub same_is_number : (x : Float) → ne x x ≡ false → T (not (is_nan x))
 unfolding ne is_nan
-same-is-number nan e = absurd (true≢false e)
-same-is-number (inf s) e = tt
-same-is-number (fin s m d) e = tt
+same_is_number nan e = absurd (true≢false e)
+same_is_number (inf s) e = tt
+same_is_number (fin s m d) e = tt

@@ -8,29 +8,29 @@ use borrow.Author.Tests.{eqb-true}
 use lib.Dec.{eqb}
 use lib.ListN.{length, get_or, drop, replicate, drop_of_length-le}
 use lib.Seq.{drop-cons}
-use Rattle.transform.specs.Zeros.{allZero}
+use Rattle.transform.specs.Zeros.{all_zero}
 use Rattle.transform.proofs.Chain.{left, right}
 
 module _ (l : List ℕ) (i : ℕ) where
   module _ (h : i < length l) where
-    zero-next : allZero (drop i l) ≡ eqb (get_or l i 0) 0 && allZero (drop (i + 1) l)
-    zero-next = ap allZero (drop-cons l i 0 h) ∙ rw add-one
+    zero_next : all_zero (drop i l) ≡ eqb (get_or l i 0) 0 && all_zero (drop (i + 1) l)
+    zero_next = ap all_zero (drop-cons l i 0 h) ∙ rw add-one
 
-    pub zero-stop : eqb (get_or l i 0) 0 ≡ false → allZero (drop i l) ≡ false
-    zero-stop e = zero-next ∙ ap (λ (t : Bool). t && allZero (drop (i + 1) l)) e
+    pub zero_stop : eqb (get_or l i 0) 0 ≡ false → all_zero (drop i l) ≡ false
+    zero_stop e = zero_next ∙ ap (λ (t : Bool). t && all_zero (drop (i + 1) l)) e
 
-    pub zero-go : eqb (get_or l i 0) 0 ≡ true → allZero (drop (i + 1) l) ≡ allZero (drop i l)
-    zero-go e = sym (zero-next ∙ ap (λ (t : Bool). t && allZero (drop (i + 1) l)) e)
+    pub zero_go : eqb (get_or l i 0) 0 ≡ true → all_zero (drop (i + 1) l) ≡ all_zero (drop i l)
+    zero_go e = sym (zero_next ∙ ap (λ (t : Bool). t && all_zero (drop (i + 1) l)) e)
 
-  pub zero-none : length l ≤ i → allZero (drop i l) ≡ true
-  zero-none h = ap allZero (drop_of_length-le l h)
+  pub zero_none : length l ≤ i → all_zero (drop i l) ≡ true
+  zero_none h = ap all_zero (drop_of_length-le l h)
 
 -- they are that many zeros
-pub zeros_of : (l : List ℕ) → allZero l ≡ true → l ≡ replicate (length l) 0
+pub zeros_of : (l : List ℕ) → all_zero l ≡ true → l ≡ replicate (length l) 0
 zeros_of [] e = refl
 zeros_of (v ∷ l) e =
-    ap (λ (x : ℕ). x ∷ l) (eqb-true v 0 (left (eqb v 0) (allZero l) e)) ∙ ap (λ (x : List ℕ). 0 ∷ x) (zeros_of l (right (eqb v 0) (allZero l) e))
+    ap (λ (x : ℕ). x ∷ l) (eqb-true v 0 (left (eqb v 0) (all_zero l) e)) ∙ ap (λ (x : List ℕ). 0 ∷ x) (zeros_of l (right (eqb v 0) (all_zero l) e))
 
-pub of-zeros : (n : ℕ) → allZero (replicate n 0) ≡ true
-of-zeros zero = refl
-of-zeros (suc n) = of-zeros n
+pub of_zeros : (n : ℕ) → all_zero (replicate n 0) ≡ true
+of_zeros zero = refl
+of_zeros (suc n) = of_zeros n

@@ -49,8 +49,8 @@ end-line-requires c κs = search rules
 returns : tie.Need-returns invariant-loop decreases-loop
 returns c = search rules
 
-pub freqs-spec : {M : Type 1} → statement M
-freqs-spec =
+pub freqs_spec : {M : Type 1} → statement M
+freqs_spec =
     tie.close
     (tie.spec
     invariant-loop

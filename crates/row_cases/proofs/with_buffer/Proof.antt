@@ -16,7 +16,7 @@ run-all-requires c κs = tt
 returns : tie.Need-returns
 returns c = tt
 
-pub with-buffer-spec : {M : Type 1} → statement M
-with-buffer-spec =
+pub with_buffer_spec : {M : Type 1} → statement M
+with_buffer_spec =
     tie.close
     (tie.spec slice-aggregate-run-all slice-aggregate-run-all-2 run-all-requires returns)

@@ -33,8 +33,8 @@ loop-again c = search rules
 returns : tie.Need-returns invariant-loop decreases-loop
 returns c = search rules
 
-pub run-all-spec : {M : Type 1} → statement M
-run-all-spec =
+pub run_all_spec : {M : Type 1} → statement M
+run_all_spec =
     tie.close
     (tie.spec
     invariant-loop

@@ -36,8 +36,8 @@ loop-again c = search rules
 returns-2 : tie.Need-returns-2 invariant-loop decreases-loop
 returns-2 c = search rules
 
-pub used-spec : {M : Type 1} → statement M
-used-spec =
+pub used_spec : {M : Type 1} → statement M
+used_spec =
     tie.close
     (tie.spec
     invariant-loop

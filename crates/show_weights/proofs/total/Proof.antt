@@ -1,6 +1,6 @@
 -- `show_weights::total` meets its contract. The loop's invariant: the sums are those of the weights from place i on. Assumes nothing.
 use Rattle.std.proofs.Common.{ℕ, ◌+◌, ◌-◌, ◌%◌, ◌^◌, ◌≤◌, length, drop, ap, ◌∙◌, arith, rules}
-use Rattle.show_weights.proofs.TotalLaws.{Summed, summed-none, summed-more, summed-all}
+use Rattle.show_weights.proofs.TotalLaws.{Summed, summed_none, summed_more, summed_all}
 use Rattle.show_weights.proofs.total.Statement.{statement}
 use Rattle.show_weights.proofs.total.Tie as tie
 
@@ -11,7 +11,7 @@ abbrev decreases-loop : tie.decreases-loop
 decreases-loop part running₀ sum₀ i₀ running sum i = i
 
 loop-holds : tie.Need-loop-init invariant-loop decreases-loop
-loop-holds c = (search rules, summed-none c.before.args.part.now)
+loop-holds c = (search rules, summed_none c.before.args.part.now)
 
 sub-i : tie.Need-overflow-sub-i invariant-loop decreases-loop
 sub-i c = search rules
@@ -40,13 +40,13 @@ loop-less c = search rules
 loop-again : tie.Need-loop-preserved invariant-loop decreases-loop
 loop-again c =
     let l = c.before.before.before.before.before.loop in
-    (search rules, summed-more c.before.before.before.before.before.before.before.args.part.now l.i (l.i - 1) l.running l.sum _ _ (search rules) (omega arith) l.invariant.1 (c.before.wrapping-add-u64.ensures ∙ ap (λ (b : ℕ). (l.running + b) % 2 ^ 64) c.before.before.bits.ensures) c.wrapping-add-u642.ensures)
+    (search rules, summed_more c.before.before.before.before.before.before.before.args.part.now l.i (l.i - 1) l.running l.sum _ _ (search rules) (omega arith) l.invariant.1 (c.before.wrapping-add-u64.ensures ∙ ap (λ (b : ℕ). (l.running + b) % 2 ^ 64) c.before.before.bits.ensures) c.wrapping-add-u642.ensures)
 
 returns : tie.Need-returns invariant-loop decreases-loop
-returns c = summed-all c.before.before.before.args.part.now c.before.loop.i _ _ (search rules) c.before.loop.invariant.1
+returns c = summed_all c.before.before.before.args.part.now c.before.loop.i _ _ (search rules) c.before.loop.invariant.1
 
-pub total-spec : {M : Type 1} → statement M
-total-spec =
+pub total_spec : {M : Type 1} → statement M
+total_spec =
     tie.close
     (tie.spec
     invariant-loop

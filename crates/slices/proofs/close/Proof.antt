@@ -7,7 +7,7 @@ use borrow.Author.Rules.{rules}
 use lib.Ieee.{nan}
 use lib.ListN.{length, length-set}
 use lib.Seq.{paste, paste-zero}
-use Rattle.slices.proofs.Laws.{moved, close-beyond, close-none, moves-down, comes-free, close-all}
+use Rattle.slices.proofs.Laws.{moved, close_beyond, close_none, moves_down, comes_free, close_all}
 use Rattle.slices.proofs.close.Statement.{statement}
 use Rattle.slices.proofs.close.Tie as tie
 
@@ -21,17 +21,17 @@ decreases-loop arena₀ at n end free i₀ arena i = end - i
 returns : tie.Need-returns invariant-loop decreases-loop
 returns c =
     let a = c.before.args in
-    close-beyond a.arena.now a.at a.n a.end (omega (arith, c.if1.true))
+    close_beyond a.arena.now a.at a.n a.end (omega (arith, c.if1.true))
 
 returns-2 : tie.Need-returns-2 invariant-loop decreases-loop
 returns-2 c =
     let a = c.before.before.args in
-    close-none a.arena.now a.at a.n a.end (omega (arith, c.if2.true))
+    close_none a.arena.now a.at a.n a.end (omega (arith, c.if2.true))
 
 returns-3 : tie.Need-returns-3 invariant-loop decreases-loop
 returns-3 c =
     let a = c.before.before.before.args in
-    close-none a.arena.now a.at a.n a.end (omega (arith, c.if3.true))
+    close_none a.arena.now a.at a.n a.end (omega (arith, c.if3.true))
 
 sub-free : tie.Need-overflow-sub-free invariant-loop decreases-loop
 sub-free c = search rules
@@ -73,7 +73,7 @@ loop-again c =
       search rules,
       search rules,
       length-set l.arena l.i _ ∙ l.invariant.2,
-      moves-down a.arena.now a.at a.n a.end (search rules) (search rules) l.arena l.i nan (search rules) (search rules) l.invariant.3 (search rules),
+      moves_down a.arena.now a.at a.n a.end (search rules) (search rules) l.arena l.i nan (search rules) (search rules) l.invariant.3 (search rules),
     )
 
 mul-arena-3 : tie.Need-overflow-mul-arena-3 invariant-loop decreases-loop
@@ -92,7 +92,7 @@ loop-again-2 c =
       search rules,
       search rules,
       length-set l.arena l.i _ ∙ l.invariant.2,
-      comes-free a.arena.now a.at a.n a.end (search rules) (search rules) l.arena l.i nan (search rules) (search rules) l.invariant.3 (search rules),
+      comes_free a.arena.now a.at a.n a.end (search rules) (search rules) l.arena l.i nan (search rules) (search rules) l.invariant.3 (search rules),
     )
 
 same_length : tie.Need-same-length invariant-loop decreases-loop
@@ -105,7 +105,7 @@ returns-4 c =
     let e : l.i ≡ a.end = search rules in
     l.invariant.3
     ∙ ap (λ (i : ℕ). paste a.arena.now a.at (moved a.arena.now a.at a.n a.end) (i - a.at)) e
-    ∙ close-all a.arena.now a.at a.n a.end (search rules) (search rules)
+    ∙ close_all a.arena.now a.at a.n a.end (search rules) (search rules)
 
 pub close_spec : {M : Type 1} → statement M
 close_spec =

@@ -7,7 +7,7 @@ use borrow.Author.Rules.{rules}
 use lib.Ieee.{nan}
 use lib.ListN.{length, length-set}
 use lib.Seq.{paste, paste-zero, paste-suc}
-use Rattle.slices.proofs.Laws.{put-stays, put_all}
+use Rattle.slices.proofs.Laws.{put_stays, put_all}
 use Rattle.slices.proofs.put.Statement.{statement}
 use Rattle.slices.proofs.put.Tie as tie
 
@@ -21,7 +21,7 @@ decreases-loop arena₀ at weights i₀ arena i = length weights - i
 returns : tie.Need-returns invariant-loop decreases-loop
 returns c =
     let a = c.before.args in
-    put-stays a.arena.now a.at a.weights.now (omega (arith, c.if1.true))
+    put_stays a.arena.now a.at a.weights.now (omega (arith, c.if1.true))
 
 sub-if2 : tie.Need-overflow-sub-if2 invariant-loop decreases-loop
 sub-if2 c = search rules
@@ -29,7 +29,7 @@ sub-if2 c = search rules
 returns-2 : tie.Need-returns-2 invariant-loop decreases-loop
 returns-2 c =
     let a = c.before.before.args in
-    put-stays a.arena.now a.at a.weights.now (omega (arith, c.if2.true))
+    put_stays a.arena.now a.at a.weights.now (omega (arith, c.if2.true))
 
 loop-holds : tie.Need-loop-init invariant-loop decreases-loop
 loop-holds c = let a = c.before.before.args in (search rules, refl, paste-zero a.arena.now a.at a.weights.now)

@@ -1,18 +1,18 @@
 -- `total::part_total` meets its contract. The loop's invariant: the total is that of the weights before i. Assumes nothing.
 use Rattle.std.proofs.Common.{◌≡◌, ◌+◌, ◌-◌, ◌≤◌, length, take, arith, rules}
-use Rattle.total.specs.Total.{totalFrom}
-use Rattle.total.proofs.Laws.{product_le, total-none, total-next, total-all}
+use Rattle.total.specs.Total.{total_from}
+use Rattle.total.proofs.Laws.{product_le, total_none, total_next, total_all}
 use Rattle.total.proofs.part_total.Statement.{statement}
 use Rattle.total.proofs.part_total.Tie as tie
 
 abbrev invariant-loop : tie.invariant-loop
-invariant-loop part first total₀ i₀ total i = (i ≤ length part) × (total ≡ totalFrom first (take i part))
+invariant-loop part first total₀ i₀ total i = (i ≤ length part) × (total ≡ total_from first (take i part))
 
 abbrev decreases-loop : tie.decreases-loop
 decreases-loop part first total₀ i₀ total i = length part - i
 
 loop-holds : tie.Need-loop-init invariant-loop decreases-loop
-loop-holds c = (omega arith, total-none c.before.args.part.now c.before.args.first)
+loop-holds c = (omega arith, total_none c.before.args.part.now c.before.args.first)
 
 add-place : tie.Need-overflow-add-place invariant-loop decreases-loop
 add-place c = search rules
@@ -53,16 +53,16 @@ loop-again c =
     let l = c.before.before.before.before.loop in
     let a = c.before.before.before.before.before.before.args in (
       search rules,
-      total-next a.part.now a.first l.i l.total c.before.bits.result c.wrapping-add-u64.result (search rules) l.invariant.1 c.before.bits.ensures c.wrapping-add-u64.ensures,
+      total_next a.part.now a.first l.i l.total c.before.bits.result c.wrapping-add-u64.result (search rules) l.invariant.1 c.before.bits.ensures c.wrapping-add-u64.ensures,
     )
 
 returns : tie.Need-returns invariant-loop decreases-loop
 returns c =
     let a = c.before.before.before.args in
-    total-all a.part.now a.first c.before.loop.i c.before.loop.total c.loop-test.false c.before.loop.invariant.1
+    total_all a.part.now a.first c.before.loop.i c.before.loop.total c.loop-test.false c.before.loop.invariant.1
 
-pub part-total-spec : {M : Type 1} → statement M
-part-total-spec =
+pub part_total_spec : {M : Type 1} → statement M
+part_total_spec =
     tie.close
     (tie.spec
     invariant-loop

@@ -1,8 +1,8 @@
 -- `total::replace_kind` meets its contract: what holds where the kind's start is at hand (`known`) holds from there on. Assumes nothing.
 use Rattle.std.proofs.Common.{◌≡◌, ℕ, true, length, sym, ◌∙◌, arith, rules}
 use borrow.Author.Tests.{not-true, not-false}
-use Rattle.total.specs.Total.{partRight}
-use Rattle.total.proofs.Answers.{Placed, placed, part-fits, replace-lent, arena-kept, replace-done, replaced-is, put_is}
+use Rattle.total.specs.Total.{part_right}
+use Rattle.total.proofs.Answers.{Placed, placed, part_fits, replace_lent, arena_kept, replace_done, replaced_is, put_is}
 use Rattle.total.proofs.replace_kind.Statement.{statement}
 use Rattle.total.proofs.replace_kind.Tie as tie
 
@@ -13,7 +13,7 @@ returns : tie.Need-returns
 returns c =
     let a = c.before.before.before.before.args in
     let e = sym c.before.part_right.ensures ∙ not-true _ c.if1.true in
-    (replace-lent a.arena.now a.kind a.weights.now a.total e, arena-kept a.arena.now a.kind a.weights.now e)
+    (replace_lent a.arena.now a.kind a.weights.now a.total e, arena_kept a.arena.now a.kind a.weights.now e)
 
 arena-start-requires : tie.Need-arena-start-requires
 arena-start-requires c κs = search rules
@@ -28,7 +28,7 @@ start c = c.before.before.before.before.before
 abbrev place : Placing → ℕ
 place c = c.arena-start.result
 
-right : (c : Placing) → partRight (length (start c).args.arena.now) (start c).args.kind (length (start c).args.weights.now) ≡ true
+right : (c : Placing) → part_right (length (start c).args.arena.now) (start c).args.kind (length (start c).args.weights.now) ≡ true
 right c = sym c.before.before.part_right.ensures ∙ not-false _ c.before.if1.false
 
 known : (c : Placing) → Placed (length (start c).args.arena.now) (start c).args.kind (length (start c).args.weights.now) (place c)
@@ -50,7 +50,7 @@ part-part-total-end : tie.Need-slice-bounds-part-total-end
 part-part-total-end c = let k = known c.before in omega (arith, k.ends, k.arena)
 
 part-total-requires : tie.Need-part-total-requires
-part-total-requires c κs = let d = c.before.before in part-fits (start d).args.arena.now (start d).args.kind (start d).args.weights.now _ (known d)
+part-total-requires c κs = let d = c.before.before in part_fits (start d).args.arena.now (start d).args.kind (start d).args.weights.now _ (known d)
 
 part-total-requires-2 : tie.Need-part-total-requires-2
 part-total-requires-2 c κs = (known c.before.before.before).ends
@@ -78,12 +78,12 @@ returns-2 c =
     let ws = a.weights.now in
     let old = p.before.part-total in
     let new = p.part-total2 in (
-      replace-done l k ws a.total _ (right d) (replaced-is l k ws a.total (place d) old.result new.result less.result _ (known d) old.ensures new.ensures less.ensures less.type-inv c.wrapping-add-u64.ensures),
+      replace_done l k ws a.total _ (right d) (replaced_is l k ws a.total (place d) old.result new.result less.result _ (known d) old.ensures new.ensures less.ensures less.type-inv c.wrapping-add-u64.ensures),
       put_is l k ws _ _ (known d) (right d) c.before.before.before.before.put.ensures,
     )
 
-pub replace-kind-spec : {M : Type 1} → statement M
-replace-kind-spec =
+pub replace_kind_spec : {M : Type 1} → statement M
+replace_kind_spec =
     tie.close
     (tie.spec
     part-right-requires

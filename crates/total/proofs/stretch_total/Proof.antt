@@ -1,15 +1,15 @@
 -- `total::stretch_total` meets its contract. Assumes nothing.
 use Rattle.std.proofs.Common.{ap, ◌∙◌, arith, rules}
 use Rattle.transform.proofs.PartLaws.{cut_at}
-use Rattle.total.specs.Total.{totalFrom}
-use Rattle.total.proofs.Answers.{other-arena, outside, counted}
+use Rattle.total.specs.Total.{total_from}
+use Rattle.total.proofs.Answers.{other_arena, outside, counted}
 use Rattle.total.proofs.stretch_total.Statement.{statement}
 use Rattle.total.proofs.stretch_total.Tie as tie
 
 returns : tie.Need-returns
 returns c =
     let a = c.before.before.args in
-    other-arena a.arena.now a.first a.count c.if1.true
+    other_arena a.arena.now a.first a.count c.if1.true
 
 returns-2 : tie.Need-returns-2
 returns-2 c =
@@ -43,10 +43,10 @@ returns-4 : tie.Need-returns-4
 returns-4 c =
     let d = c.before.before in
     let a = d.before.before.before.before.args in
-    counted a.arena.now a.first a.count c.part-total.result d.before.before.if1.false (omega (arith, d.before.if2.false, d.if3.false)) (c.part-total.ensures ∙ ap (totalFrom a.first) (cut_at a.first a.count a.arena.now))
+    counted a.arena.now a.first a.count c.part-total.result d.before.before.if1.false (omega (arith, d.before.if2.false, d.if3.false)) (c.part-total.ensures ∙ ap (total_from a.first) (cut_at a.first a.count a.arena.now))
 
-pub stretch-total-spec : {M : Type 1} → statement M
-stretch-total-spec =
+pub stretch_total_spec : {M : Type 1} → statement M
+stretch_total_spec =
     tie.close
     (tie.spec
     returns

@@ -20,5 +20,5 @@ filled-call-requires c κs = tt
 returns : tie.Need-returns
 returns c = tt
 
-pub call-spec : {M : Type 1} → statement M
-call-spec = tie.close (tie.spec slice-aggregate-filled-call slice-aggregate-filled-call-2 slice-aggregate-filled-call-3 filled-call-requires returns)
+pub call_spec : {M : Type 1} → statement M
+call_spec = tie.close (tie.spec slice-aggregate-filled-call slice-aggregate-filled-call-2 slice-aggregate-filled-call-3 filled-call-requires returns)

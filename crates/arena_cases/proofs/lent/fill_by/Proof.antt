@@ -39,8 +39,8 @@ same_length c = search rules
 returns : tie.Need-returns invariant-loop decreases-loop
 returns c = search rules
 
-pub fill-by-spec : {M : Type 1} → statement M
-fill-by-spec =
+pub fill_by_spec : {M : Type 1} → statement M
+fill_by_spec =
     tie.close
     (tie.spec
     invariant-loop

@@ -15,5 +15,5 @@ float-from-bits-result c = subst (λ (t : Bool). T (not t)) (sym (nan_bits_above
 returns-2 : tie.Need-returns-2
 returns-2 c = search rules
 
-pub float-spec : {M : Type 1} → statement M
-float-spec = tie.close (tie.spec returns float-from-bits-result returns-2)
+pub float_spec : {M : Type 1} → statement M
+float_spec = tie.close (tie.spec returns float-from-bits-result returns-2)

@@ -42,8 +42,8 @@ same_length c = search rules
 returns : tie.Need-returns invariant-loop decreases-loop
 returns c = search rules
 
-pub put-apart-spec : {M : Type 1} → statement M
-put-apart-spec =
+pub put_apart_spec : {M : Type 1} → statement M
+put_apart_spec =
     tie.close
     (tie.spec
     invariant-loop

@@ -48,8 +48,8 @@ end-requires c κs = search rules
 returns : tie.Need-returns invariant-loop decreases-loop
 returns c = search rules
 
-pub show-state-spec : {M : Type 1} → statement M
-show-state-spec =
+pub show_state_spec : {M : Type 1} → statement M
+show_state_spec =
     tie.close
     (tie.spec
     invariant-loop

@@ -1,7 +1,7 @@
 -- `chain::begun`: the digits that come down are laid before i; the rest is `digits_eight`. Assumes nothing.
 use Rattle.std.proofs.Common.{◌-◌, ◌*◌, ◌/◌, ◌%◌, ◌^◌, get_or, refl, arith, rules}
-use Rattle.bands.proofs.TableLaws.{Building, building-none, building-more, building-all}
-use Rattle.bands.proofs.ChainRoots.{chains-begun, chains-nearly}
+use Rattle.bands.proofs.TableLaws.{Building, building_none, building_more, building_all}
+use Rattle.bands.proofs.ChainRoots.{chains_begun, chains_nearly}
 use Rattle.bands.proofs.chain.begun.Statement.{statement}
 use Rattle.bands.proofs.chain.begun.Tie as tie
 
@@ -15,7 +15,7 @@ sub-s : tie.Need-overflow-sub-s invariant-loop decreases-loop
 sub-s c = omega (arith, c.requires.0)
 
 loop-holds : tie.Need-loop-init invariant-loop decreases-loop
-loop-holds c = (building-none _ _ _ _ refl, building-none _ _ _ _ refl)
+loop-holds c = (building_none _ _ _ _ refl, building_none _ _ _ _ refl)
 
 mul-w : tie.Need-overflow-mul-w invariant-loop decreases-loop
 mul-w c = search rules
@@ -59,7 +59,7 @@ loop-less c = search rules
 loop-again : tie.Need-loop-preserved invariant-loop decreases-loop
 loop-again c =
     let l = c.before.loop in
-    (building-more _ _ _ _ _ _ c.loop-test.true l.invariant.0 refl, building-more _ _ _ _ _ _ c.loop-test.true l.invariant.1 refl)
+    (building_more _ _ _ _ _ _ c.loop-test.true l.invariant.0 refl, building_more _ _ _ _ _ _ c.loop-test.true l.invariant.1 refl)
 
 cast-digits-eight : tie.Need-overflow-cast-digits-eight invariant-loop decreases-loop
 cast-digits-eight c = omega (arith, c.before.before.requires.0)
@@ -75,7 +75,7 @@ digits-eight-requires c κs =
     let p = c.before.before.requires in
     let v = c.before.loop.invariant in
     let e = c.loop-test.false in
-    chains-begun _ _ _ _ p.0 p.1 v.0.long v.1.long (building-all _ _ _ _ _ e v.0) (building-all _ _ _ _ _ e v.1)
+    chains_begun _ _ _ _ p.0 p.1 v.0.long v.1.long (building_all _ _ _ _ _ e v.0) (building_all _ _ _ _ _ e v.1)
 
 returns : tie.Need-returns invariant-loop decreases-loop
 returns c =
@@ -83,10 +83,10 @@ returns c =
     let p = d.before.before.requires in
     let v = d.before.loop.invariant in
     let e = d.loop-test.false in
-    chains-nearly _ _ _ _ p.0 p.1 v.0.long v.1.long (building-all _ _ _ _ _ e v.0) (building-all _ _ _ _ _ e v.1) _ _ c.digits-eight.ensures
+    chains_nearly _ _ _ _ p.0 p.1 v.0.long v.1.long (building_all _ _ _ _ _ e v.0) (building_all _ _ _ _ _ e v.1) _ _ c.digits-eight.ensures
 
-pub begun-spec : {M : Type 1} → statement M
-begun-spec =
+pub begun_spec : {M : Type 1} → statement M
+begun_spec =
     tie.close
     (tie.spec
     invariant-loop

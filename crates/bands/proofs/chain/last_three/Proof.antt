@@ -1,7 +1,7 @@
 -- `chain::last_three`: three digits more of a root (`three`). Assumes nothing.
 use Rattle.std.proofs.Common.{◌+◌, ◌-◌, ◌*◌, ◌%◌, ◌^◌, ◌<◌, ◌≤◌, refl, ◌∙◌, subst, zero-le, le_trans, le_of_eq, le_of_lt, arith, rules}
 use Rattle.bands.specs.Eights.{Less}
-use Rattle.bands.proofs.ChainRoots.{Told, told, told-some, told-le, told-bit, Leaves, leaves, first_small, second-small, three, shifted, odd}
+use Rattle.bands.proofs.ChainRoots.{Told, told, told_some, told_le, told_bit, Leaves, leaves, first_small, second_small, three, shifted, odd}
 use Rattle.bands.proofs.chain.last_three.Statement.{statement}
 use Rattle.bands.proofs.chain.last_three.Tie as tie
 
@@ -30,7 +30,7 @@ y-small : (c : tie.After-less2) → (c.less2.result * 2 % 2 ^ 32 ≤ 2 * c.befor
 y-small c =
     let l = c.before.before in
     let p = l.before.before.requires in
-    second-small _ _ _ _ _ _ p.0 p.1 (x-leaves l) (y-leaves c)
+    second_small _ _ _ _ _ _ p.0 p.1 (x-leaves l) (y-leaves c)
 
 -- what the third is compared with
 z-less : (c : tie.After-less3) → Less c.less3.result (c.before.less2.result * 2 % 2 ^ 32) c.before.before.before.before.digit.result (2 * c.before.before.digit2.result + 1)
@@ -43,7 +43,7 @@ digit-requires : tie.Need-digit-requires
 digit-requires c κs = search rules
 
 less-requires : tie.Need-less-requires
-less-requires c κs = λ h. le_of_lt (told-some _ _ _ (x-told c) h)
+less-requires c κs = λ h. le_of_lt (told_some _ _ _ (x-told c) h)
 
 sub-digit : tie.Need-overflow-sub-digit
 sub-digit c = (x-small c).0
@@ -52,7 +52,7 @@ digit-requires-2 : tie.Need-digit-requires-2
 digit-requires-2 c κs = let p = c.before.before.requires in (omega (arith, p.0), omega (arith, p.0, (x-small c).1))
 
 less-requires-2 : tie.Need-less-requires-2
-less-requires-2 c κs = λ h. omega (arith, told-some _ _ _ (y-told c) h)
+less-requires-2 c κs = λ h. omega (arith, told_some _ _ _ (y-told c) h)
 
 less-requires-3 : tie.Need-less-requires-3
 less-requires-3 c κs = λ h. le_trans (le_of_eq (odd _ (y-small c).1)) ((y-small c).2 h)
@@ -61,16 +61,16 @@ digit-requires-3 : tie.Need-digit-requires-3
 digit-requires-3 c κs =
     let d = c.before in
     let l = d.before.before in
-    (omega (arith, l.before.before.requires.0), omega (arith, l.before.before.requires.0, (y-small d).0, told-le _ _ _ _ _ _ (x-told l.before) (z-less c)))
+    (omega (arith, l.before.before.requires.0), omega (arith, l.before.before.requires.0, (y-small d).0, told_le _ _ _ _ _ _ (x-told l.before) (z-less c)))
 
 returns : tie.Need-returns
 returns c =
     let d = c.before.before in
     let l = d.before.before in
     let p = l.before.before.requires in
-    shifted _ _ _ _ p.0 (told-bit _ _ _ (x-told l.before)) (told-bit _ _ _ (y-told d.before)) (told-bit _ _ _ (z-told c))
+    shifted _ _ _ _ p.0 (told_bit _ _ _ (x-told l.before)) (told_bit _ _ _ (y-told d.before)) (told_bit _ _ _ (z-told c))
     ∙ three _ _ _ _ _ _ p.0 p.1 (x-leaves l) (y-leaves d) _ _ (z-told c) (z-less c.before)
 
-pub last-three-spec : {M : Type 1} → statement M
-last-three-spec =
+pub last_three_spec : {M : Type 1} → statement M
+last_three_spec =
     tie.close (tie.spec digit-requires less-requires sub-digit digit-requires-2 less-requires-2 less-requires-3 digit-requires-3 returns)

@@ -18,5 +18,5 @@ returns c = record { none = λ e. refl; one = λ e. absurd (no _ c.if1.true e) }
 returns-2 : tie.Need-returns-2
 returns-2 c = record { none = λ e. absurd (c.if1.false e); one = λ e. refl }
 
-pub less-spec : {M : Type 1} → statement M
-less-spec = tie.close (tie.spec sub-result returns returns-2)
+pub less_spec : {M : Type 1} → statement M
+less_spec = tie.close (tie.spec sub-result returns returns-2)

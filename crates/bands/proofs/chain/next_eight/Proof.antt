@@ -1,5 +1,5 @@
 -- `chain::next_eight`: by the digits, or by halves near the end. Assumes nothing.
-use Rattle.bands.proofs.ChainRoots.{near-end}
+use Rattle.bands.proofs.ChainRoots.{near_end}
 use Rattle.std.proofs.Common.{rules}
 use Rattle.bands.proofs.chain.next_eight.Statement.{statement}
 use Rattle.bands.proofs.chain.next_eight.Tie as tie
@@ -8,7 +8,7 @@ by-digits-requires : tie.Need-by-digits-requires
 by-digits-requires c κs = search rules
 
 by-halves-requires : tie.Need-by-halves-requires
-by-halves-requires c κs = near-end _ _ c.if1.false c.before.requires
+by-halves-requires c κs = near_end _ _ c.if1.false c.before.requires
 
 returns : tie.Need-returns
 returns c = search rules
@@ -16,5 +16,5 @@ returns c = search rules
 returns-2 : tie.Need-returns-2
 returns-2 c = search rules
 
-pub next-eight-spec : {M : Type 1} → statement M
-next-eight-spec = tie.close (tie.spec by-digits-requires by-halves-requires returns returns-2)
+pub next_eight_spec : {M : Type 1} → statement M
+next_eight_spec = tie.close (tie.spec by-digits-requires by-halves-requires returns returns-2)

@@ -2,7 +2,7 @@
 use Rattle.std.proofs.Common.{◌+◌, ◌-◌, ◌<◌, sym, ap, ◌∙◌, le_of_eq, lt_of_lt_of_le, arith, rules}
 use lib.Ieee.{Float}
 use Rattle.bands.specs.Position.{position_of}
-use Rattle.bands.proofs.ColumnLaws.{columns-begun, column-asked, column-root, Laying, laying-none, laying-more, laying-all}
+use Rattle.bands.proofs.ColumnLaws.{columns_begun, column_asked, column_root, Laying, laying_none, laying_more, laying_all}
 use Rattle.bands.proofs.grid.put_positions.Statement.{statement}
 use Rattle.bands.proofs.grid.put_positions.Tie as tie
 
@@ -19,10 +19,10 @@ square-sums-requires : tie.Need-square-sums-requires invariant-loop decreases-lo
 square-sums-requires c κs = c.requires.0
 
 digits-eight-requires : tie.Need-digits-eight-requires invariant-loop decreases-loop
-digits-eight-requires c κs = columns-begun _ _ _ _ c.before.before.before.requires.0 _ _ c.before.before.square-sums.ensures
+digits-eight-requires c κs = columns_begun _ _ _ _ c.before.before.before.requires.0 _ _ c.before.before.square-sums.ensures
 
 loop-holds : tie.Need-loop-init invariant-loop decreases-loop
-loop-holds c = laying-none _ _ _ _ _ _
+loop-holds c = laying_none _ _ _ _ _ _
 
 mul-packed : tie.Need-overflow-mul-packed invariant-loop decreases-loop
 mul-packed c = search rules
@@ -40,7 +40,7 @@ packed-requires : tie.Need-packed-requires invariant-loop decreases-loop
 packed-requires c κs =
     let d = c.before.before.before in
     let q = d.before.before.before in
-    column-asked _ _ _ _ q.before.requires.0 _ _ q.square-sums.ensures _ _ d.digits-eight.ensures c.before.loop.i c.loop-test.true
+    column_asked _ _ _ _ q.before.requires.0 _ _ q.square-sums.ensures _ _ d.digits-eight.ensures c.before.loop.i c.loop-test.true
 
 position-requires : tie.Need-position-requires invariant-loop decreases-loop
 position-requires c κs = search rules
@@ -66,15 +66,15 @@ loop-again c =
     let l = m.before.loop in
     let d = m.before.before.before in
     let q = d.before.before.before in
-    laying-more _ _ _ _ _ _ _ _ _ (lt_of_lt_of_le (inside m) (le_of_eq (sym (l.invariant.long ∙ q.before.requires.3)))) l.invariant
+    laying_more _ _ _ _ _ _ _ _ _ (lt_of_lt_of_le (inside m) (le_of_eq (sym (l.invariant.long ∙ q.before.requires.3)))) l.invariant
     (λ a b. c.position.ensures ∙ ap (λ (z : Float). position_of z q.before.args.count)
-    (column-root _ _ _ _ q.before.requires.0 _ _ q.square-sums.ensures _ _ d.digits-eight.ensures l.i m.loop-test.true a b _ c.before.packed.ensures))
+    (column_root _ _ _ _ q.before.requires.0 _ _ q.square-sums.ensures _ _ d.digits-eight.ensures l.i m.loop-test.true a b _ c.before.packed.ensures))
 
 returns : tie.Need-returns invariant-loop decreases-loop
-returns c = laying-all _ _ _ _ _ _ _ _ c.loop-test.false c.before.loop.invariant
+returns c = laying_all _ _ _ _ _ _ _ _ c.loop-test.false c.before.loop.invariant
 
-pub put-positions-spec : {M : Type 1} → statement M
-put-positions-spec =
+pub put_positions_spec : {M : Type 1} → statement M
+put_positions_spec =
     tie.close
     (tie.spec
     invariant-loop

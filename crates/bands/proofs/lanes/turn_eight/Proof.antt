@@ -1,7 +1,7 @@
 -- `lanes::turn_eight`: each lane takes its turn (`Passing`). Assumes nothing.
 use Rattle.std.proofs.Common.{◌-◌, ◌^◌, ◌<◌, get_or, rules}
 use Rattle.bands.proofs.BringDown.{brings, fourfold}
-use Rattle.bands.proofs.InLanes.{Passing, passing-none, passing-lane, passing-more, passing-all, lane-small, lane-turn}
+use Rattle.bands.proofs.InLanes.{Passing, passing_none, passing_lane, passing_more, passing_all, lane_small, lane_turn}
 use Rattle.bands.proofs.lanes.turn_eight.Statement.{statement}
 use Rattle.bands.proofs.lanes.turn_eight.Tie as tie
 
@@ -18,10 +18,10 @@ small : (d : tie.After-t invariant-loop decreases-loop)
 small d =
     let m = d.before.before.before in
     let t = m.before.before.requires in
-    lane-small _ _ _ _ _ t.more (passing-lane _ _ _ _ _ _ _ m.loop-test.true t m.before.loop.invariant)
+    lane_small _ _ _ _ _ t.more (passing_lane _ _ _ _ _ _ _ m.loop-test.true t m.before.loop.invariant)
 
 loop-holds : tie.Need-loop-init invariant-loop decreases-loop
-loop-holds c = passing-none _ _ _
+loop-holds c = passing_none _ _ _
 
 mul-a : tie.Need-overflow-mul-a invariant-loop decreases-loop
 mul-a c = search rules
@@ -87,14 +87,14 @@ loop-again : tie.Need-loop-preserved invariant-loop decreases-loop
 loop-again c =
     let m = c.before.before.before.before.before.before.before in
     let l = m.before.loop in
-    passing-more _ _ _ l.root l.rem l.left l.i _ _ _ m.loop-test.true m.before.before.requires l.invariant
-    (λ N n K d. lane-turn N n _ _ _ K d _ _ c.before.before.before.over.ensures c.before.digit.ensures)
+    passing_more _ _ _ l.root l.rem l.left l.i _ _ _ m.loop-test.true m.before.before.requires l.invariant
+    (λ N n K d. lane_turn N n _ _ _ K d _ _ c.before.before.before.over.ensures c.before.digit.ensures)
 
 returns : tie.Need-returns invariant-loop decreases-loop
-returns c = passing-all _ _ _ _ _ _ _ c.loop-test.false c.before.loop.invariant
+returns c = passing_all _ _ _ _ _ _ _ c.loop-test.false c.before.loop.invariant
 
-pub turn-eight-spec : {M : Type 1} → statement M
-turn-eight-spec =
+pub turn_eight_spec : {M : Type 1} → statement M
+turn_eight_spec =
     tie.close
     (tie.spec
     invariant-loop

@@ -2,20 +2,20 @@
 use Rattle.std.proofs.Common.{◌≡◌, ℕ, ◌-◌, refl, ap, ◌∙◌, le_trans, le_of_eq, arith, rules}
 use native.Mathlib.Nat.{min-le_right}
 use lib.Ieee.{binary32, to_bits}
-use Rattle.bands.specs.Eights.{sum_of, sumBits, raisedOf}
+use Rattle.bands.specs.Eights.{sum_of, sum_bits, raised_of}
 use Rattle.bands.proofs.Distance.{sum_number}
-use Rattle.bands.proofs.TableLaws.{Building, building-none, building-more, building-all}
+use Rattle.bands.proofs.TableLaws.{Building, building_none, building_more, building_all}
 use Rattle.bands.proofs.spot.square_sums.Statement.{statement}
 use Rattle.bands.proofs.spot.square_sums.Tie as tie
 
 abbrev invariant-loop : tie.invariant-loop
-invariant-loop x y right bottom bits₀ up₀ i₀ bits up i = Building 0 8 (sumBits x y right bottom) bits i × Building 0 8 (λ k. raisedOf (sumBits x y right bottom k)) up i
+invariant-loop x y right bottom bits₀ up₀ i₀ bits up i = Building 0 8 (sum_bits x y right bottom) bits i × Building 0 8 (λ k. raised_of (sum_bits x y right bottom k)) up i
 
 abbrev decreases-loop : tie.decreases-loop
 decreases-loop x y right bottom bits₀ up₀ i₀ bits up i = 8 - i
 
 loop-holds : tie.Need-loop-init invariant-loop decreases-loop
-loop-holds c = (building-none _ _ _ _ refl, building-none _ _ _ _ refl)
+loop-holds c = (building_none _ _ _ _ refl, building_none _ _ _ _ refl)
 
 add-least : tie.Need-overflow-add-least invariant-loop decreases-loop
 add-least c = omega (arith, c.before.before.requires.near)
@@ -39,7 +39,7 @@ float-to-bits-b : tie.Need-float-to-bits-b invariant-loop decreases-loop
 float-to-bits-b c =
     let m = c.before.before.before.before in
     let p = m.before.before.before.requires in
-    sum_number m.least.result _ _ _ (le_trans (le_of_eq m.least.ensures) (min-le_right _ _)) p.wide p.not_wider p.low p.high p.not-higher
+    sum_number m.least.result _ _ _ (le_trans (le_of_eq m.least.ensures) (min-le_right _ _)) p.wide p.not_wider p.low p.high p.not_higher
 
 cast-bits : tie.Need-overflow-cast-bits invariant-loop decreases-loop
 cast-bits c = search rules
@@ -73,19 +73,19 @@ loop-again c =
     let m = c.before.before.before.before.before in
     let l = m.before.before.loop in
     let a = m.before.before.before.args in
-    let e : to_bits binary32 (sum_of m.least.result a.y a.right a.bottom) ≡ sumBits a.x a.y a.right a.bottom l.i =
+    let e : to_bits binary32 (sum_of m.least.result a.y a.right a.bottom) ≡ sum_bits a.x a.y a.right a.bottom l.i =
     ap (λ (z : ℕ). to_bits binary32 (sum_of z a.y a.right a.bottom)) m.least.ensures in (
-      building-more _ _ _ _ _ _ m.before.loop-test.true l.invariant.0 e,
-      building-more _ _ _ _ _ _ m.before.loop-test.true l.invariant.1 (c.raised.ensures ∙ ap raisedOf e),
+      building_more _ _ _ _ _ _ m.before.loop-test.true l.invariant.0 e,
+      building_more _ _ _ _ _ _ m.before.loop-test.true l.invariant.1 (c.raised.ensures ∙ ap raised_of e),
     )
 
 returns : tie.Need-returns invariant-loop decreases-loop
 returns c =
     let v = c.before.loop.invariant in
-    record { long = v.1.long; low = building-all _ _ _ _ _ c.loop-test.false v.0; high = building-all _ _ _ _ _ c.loop-test.false v.1 }
+    record { long = v.1.long; low = building_all _ _ _ _ _ c.loop-test.false v.0; high = building_all _ _ _ _ _ c.loop-test.false v.1 }
 
-pub square-sums-spec : {M : Type 1} → statement M
-square-sums-spec =
+pub square_sums_spec : {M : Type 1} → statement M
+square_sums_spec =
     tie.close
     (tie.spec
     invariant-loop

@@ -1,6 +1,6 @@
 -- `three::eight`: those before i are there. Assumes nothing.
 use Rattle.std.proofs.Common.{◌+◌, ◌-◌, get_or, refl, rules}
-use Rattle.bands.proofs.TableLaws.{Building, building-none, building-more, building-all}
+use Rattle.bands.proofs.TableLaws.{Building, building_none, building_more, building_all}
 use Rattle.bands.proofs.three.eight.Statement.{statement}
 use Rattle.bands.proofs.three.eight.Tie as tie
 
@@ -11,7 +11,7 @@ abbrev decreases-loop : tie.decreases-loop
 decreases-loop l p all₀ i₀ all i = 8 - i
 
 loop-holds : tie.Need-loop-init invariant-loop decreases-loop
-loop-holds c = building-none _ _ _ _ refl
+loop-holds c = building_none _ _ _ _ refl
 
 add-all : tie.Need-overflow-add-all invariant-loop decreases-loop
 add-all c = search rules
@@ -35,13 +35,13 @@ loop-less : tie.Need-loop-smaller invariant-loop decreases-loop
 loop-less c = search rules
 
 loop-again : tie.Need-loop-preserved invariant-loop decreases-loop
-loop-again c = building-more _ _ _ _ _ _ c.before.loop-test.true c.before.before.loop.invariant refl
+loop-again c = building_more _ _ _ _ _ _ c.before.loop-test.true c.before.before.loop.invariant refl
 
 returns : tie.Need-returns invariant-loop decreases-loop
-returns c = record { each = building-all _ _ _ _ _ c.loop-test.false c.before.loop.invariant }
+returns c = record { each = building_all _ _ _ _ _ c.loop-test.false c.before.loop.invariant }
 
-pub eight-spec : {M : Type 1} → statement M
-eight-spec =
+pub eight_spec : {M : Type 1} → statement M
+eight_spec =
     tie.close
     (tie.spec
     invariant-loop

@@ -1,6 +1,6 @@
 -- `three::put_eight`: the first i of eight numbers are laid (`Scattering`). Assumes nothing.
 use Rattle.std.proofs.Common.{◌+◌, ◌-◌, ◌<◌, get_or, sym, ◌∙◌, le_of_eq, lt_of_lt_of_le, arith, rules}
-use Rattle.bands.proofs.Tables.{Scattering, scattering-none, scattering-more, scattering-all}
+use Rattle.bands.proofs.Tables.{Scattering, scattering_none, scattering_more, scattering_all}
 use Rattle.bands.proofs.three.put_eight.Statement.{statement}
 use Rattle.bands.proofs.three.put_eight.Tie as tie
 
@@ -17,7 +17,7 @@ inside m =
     omega (arith, r.is, r.few, p.1)
 
 loop-holds : tie.Need-loop-init invariant-loop decreases-loop
-loop-holds c = scattering-none _ _ _ _
+loop-holds c = scattering_none _ _ _ _
 
 mul_wide : tie.Need-overflow-mul-wide invariant-loop decreases-loop
 mul_wide c = search rules
@@ -57,13 +57,13 @@ loop-again c =
     let w = c.before in
     let m = w.before.before in
     let l = m.before.loop in
-    scattering-more _ _ _ _ _ _ _ m.loop-test.true (lt_of_lt_of_le (inside m) (le_of_eq (sym (l.invariant.long ∙ m.before.before.requires.2)))) w.wide.ensures l.invariant
+    scattering_more _ _ _ _ _ _ _ m.loop-test.true (lt_of_lt_of_le (inside m) (le_of_eq (sym (l.invariant.long ∙ m.before.before.requires.2)))) w.wide.ensures l.invariant
 
 returns : tie.Need-returns invariant-loop decreases-loop
-returns c = scattering-all _ _ _ _ _ _ c.loop-test.false c.before.loop.invariant
+returns c = scattering_all _ _ _ _ _ _ c.loop-test.false c.before.loop.invariant
 
-pub put-eight-spec : {M : Type 1} → statement M
-put-eight-spec =
+pub put_eight_spec : {M : Type 1} → statement M
+put_eight_spec =
     tie.close
     (tie.spec
     invariant-loop

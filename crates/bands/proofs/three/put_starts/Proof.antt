@@ -1,6 +1,6 @@
 -- `three::put_starts`: exponents and starts of the ratios before p are there (`Starting`). Assumes nothing.
 use Rattle.std.proofs.Common.{◌+◌, ◌-◌, ◌*◌, ◌<◌, ◌≤◌, arith, rules}
-use Rattle.bands.proofs.Tables.{Starting, starting-none, starting-more, starting-all}
+use Rattle.bands.proofs.Tables.{Starting, starting_none, starting_more, starting_all}
 use Rattle.bands.proofs.three.put_starts.Statement.{statement}
 use Rattle.bands.proofs.three.put_starts.Tie as tie
 
@@ -18,7 +18,7 @@ inside m =
     (h, omega (arith, l.invariant.place), l.invariant.less)
 
 loop-holds : tie.Need-loop-init invariant-loop decreases-loop
-loop-holds c = starting-none _ _ _ c.requires.0 c.requires.1
+loop-holds c = starting_none _ _ _ c.requires.0 c.requires.1
 
 add-loop : tie.Need-overflow-add-loop invariant-loop decreases-loop
 add-loop c = omega (arith, c.loop.invariant.few)
@@ -89,13 +89,13 @@ loop-again c =
     let a = k.before in
     let m = a.before.before.before in
     let e = a.start_of_lem.ensures in
-    starting-more _ _ _ _ _ _ _ _ _ _ m.loop-test.true m.before.before.requires.0 m.before.loop.invariant e.0 e.1 _ k.counted.ensures _ c.across.ensures
+    starting_more _ _ _ _ _ _ _ _ _ _ m.loop-test.true m.before.before.requires.0 m.before.loop.invariant e.0 e.1 _ k.counted.ensures _ c.across.ensures
 
 returns : tie.Need-returns invariant-loop decreases-loop
-returns c = starting-all _ _ _ _ _ _ _ _ c.before.before.requires.0 c.loop-test.false c.before.loop.invariant
+returns c = starting_all _ _ _ _ _ _ _ _ c.before.before.requires.0 c.loop-test.false c.before.loop.invariant
 
-pub put-starts-spec : {M : Type 1} → statement M
-put-starts-spec =
+pub put_starts_spec : {M : Type 1} → statement M
+put_starts_spec =
     tie.close
     (tie.spec
     invariant-loop

@@ -37,8 +37,8 @@ end-line-requires c κs = search rules
 returns-2 : tie.Need-returns-2
 returns-2 c = search rules
 
-pub power-line-spec : {M : Type 1} → statement M
-power-line-spec =
+pub power_line_spec : {M : Type 1} → statement M
+power_line_spec =
     tie.close
     (tie.spec
     returns

@@ -34,8 +34,8 @@ end-line-requires c κs = search rules
 returns-2 : tie.Need-returns-2
 returns-2 c = search rules
 
-pub root-line-spec : {M : Type 1} → statement M
-root-line-spec =
+pub root_line_spec : {M : Type 1} → statement M
+root_line_spec =
     tie.close
     (tie.spec
     returns

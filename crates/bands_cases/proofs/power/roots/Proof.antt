@@ -40,8 +40,8 @@ loop-again c = search rules
 returns : tie.Need-returns invariant-loop decreases-loop
 returns c = search rules
 
-pub roots-spec : {M : Type 1} → statement M
-roots-spec =
+pub roots_spec : {M : Type 1} → statement M
+roots_spec =
     tie.close
     (tie.spec
     invariant-loop

@@ -2,9 +2,9 @@
 -- Assumes nothing.
 use mathlib.Core.Path.{ap, ◌∙◌}
 use Rattle.params.specs.declared.read.Reading.{Reading}
-use Rattle.params.specs.Header.{readHeader, replyOf}
+use Rattle.params.specs.Header.{read_header, reply_of}
 use Rattle.capi.specs.Said.{said_of}
-use Rattle.capi.proofs.Replies.{returned-other, held-other, kept-other, returned-said, held-said, kept-right}
+use Rattle.capi.proofs.Replies.{returned_other, held_other, kept_other, returned_said, held_said, kept_right}
 use borrow.Author.Rules.{rules}
 use Rattle.capi.proofs.header.dequant_read_header.Statement.{statement}
 use Rattle.capi.proofs.header.dequant_read_header.Tie as tie
@@ -12,9 +12,9 @@ use Rattle.capi.proofs.header.dequant_read_header.Tie as tie
 returns : tie.Need-returns
 returns c =
     let a = c.before.before.before.before.args in
-    let o = readHeader a.header.now a.bit a.kind a.rows.now in
+    let o = read_header a.header.now a.bit a.kind a.rows.now in
     let other = c.if1.true in
-    (returned-other a.reply.now (replyOf o.answer) other, held-other a.reply.now (replyOf o.answer) other, kept-other a.reply.now o.rows a.rows.now other)
+    (returned_other a.reply.now (reply_of o.answer) other, held_other a.reply.now (reply_of o.answer) other, kept_other a.reply.now o.rows a.rows.now other)
 
 read-header-requires : tie.Need-read-header-requires
 read-header-requires c κs = search rules
@@ -34,16 +34,16 @@ same-length-2 c = search rules
 returns-2 : tie.Need-returns-2
 returns-2 c =
     let a = c.before.before.before.before.before.before.before.before.before.before.before.before.before.args in
-    let o = readHeader a.header.now a.bit a.kind a.rows.now in
+    let o = read_header a.header.now a.bit a.kind a.rows.now in
     let right = c.before.before.before.before.before.before.before.before.before.if1.false in
     let read = c.before.before.before.before.before.before.before.read-header.ensures in
     let s = c.before.before.before.before.said-reading.result in
-    let is = c.before.before.before.before.said-reading.ensures ∙ ap (λ (f : Reading). said_of (replyOf f)) read.0 in
+    let is = c.before.before.before.before.said-reading.ensures ∙ ap (λ (f : Reading). said_of (reply_of f)) read.0 in
     let told = c.before.before.say.ensures in
-    (told.0 ∙ returned-said a.reply.now (replyOf o.answer) s is right, told.1 ∙ held-said a.reply.now (replyOf o.answer) s is right, read.1 ∙ kept-right a.reply.now o.rows a.rows.now right)
+    (told.0 ∙ returned_said a.reply.now (reply_of o.answer) s is right, told.1 ∙ held_said a.reply.now (reply_of o.answer) s is right, read.1 ∙ kept_right a.reply.now o.rows a.rows.now right)
 
-pub dequant-read-header-spec : {M : Type 1} → statement M
-dequant-read-header-spec =
+pub dequant_read_header_spec : {M : Type 1} → statement M
+dequant_read_header_spec =
     tie.close
     (tie.spec
     returns

@@ -2,7 +2,7 @@
 -- Assumes nothing.
 use mathlib.Core.Path.{ap, sym, ◌∙◌}
 use Rattle.params.specs.declared.read.Reading.{Reading}
-use Rattle.params.specs.Header.{replyOf}
+use Rattle.params.specs.Header.{reply_of}
 use Rattle.capi.specs.Said.{said_of}
 use Rattle.capi.specs.declared.reply.Said.{Said}
 use borrow.Author.Rules.{rules}
@@ -10,7 +10,7 @@ use Rattle.capi.proofs.header.said_reading.Statement.{statement}
 use Rattle.capi.proofs.header.said_reading.Tie as tie
 
 abbrev said : Reading → Said
-said f = said_of (replyOf f)
+said f = said_of (reply_of f)
 
 enum-known-found : tie.Need-enum-known-found
 enum-known-found c = search rules
@@ -66,8 +66,8 @@ returns-5 c = c.made5.ensures ∙ ap said (sym c.before.before.found4.given.1)
 returns-6 : tie.Need-returns-6
 returns-6 c = c.made6.ensures ∙ ap said (sym c.before.before.found5.given.1)
 
-pub said-reading-spec : {M : Type 1} → statement M
-said-reading-spec =
+pub said_reading_spec : {M : Type 1} → statement M
+said_reading_spec =
     tie.close
     (tie.spec
     enum-known-found

@@ -20,5 +20,5 @@ returns c = sym (ap (first c.before.args.channel) (lt-ltb c.before.args.channel 
 returns-2 : tie.Need-returns-2
 returns-2 c = sym (ap (first c.before.args.channel) (le-ltb c.before.args.channel 3 c.if1.false))
 
-pub first-of-spec : {M : Type 1} → statement M
-first-of-spec = tie.close (tie.spec mul-result returns returns-2)
+pub first_of_spec : {M : Type 1} → statement M
+first_of_spec = tie.close (tie.spec mul-result returns returns-2)

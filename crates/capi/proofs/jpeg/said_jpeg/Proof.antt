@@ -3,7 +3,7 @@
 use mathlib.Core.Path.{ap, sym, ◌∙◌}
 use Prim.Native.Nat.{ℕ}
 use Rattle.dequant.specs.declared.jpeg.Jpeg.{Jpeg}
-use Rattle.capi.specs.Parts.{jpegReply}
+use Rattle.capi.specs.Parts.{jpeg_reply}
 use Rattle.capi.specs.Said.{said_of}
 use Rattle.capi.specs.declared.reply.Said.{Said}
 use borrow.Author.Rules.{rules}
@@ -11,7 +11,7 @@ use Rattle.capi.proofs.jpeg.said_jpeg.Statement.{statement}
 use Rattle.capi.proofs.jpeg.said_jpeg.Tie as tie
 
 abbrev said : ℕ → Jpeg → Said
-said first f = said_of (jpegReply first f)
+said first f = said_of (jpeg_reply first f)
 
 enum_told : tie.Need-enum-told
 enum_told c = search rules
@@ -49,8 +49,8 @@ returns-3 c = c.made3.ensures ∙ ap (said c.before.before.before.before.args.fi
 returns-4 : tie.Need-returns-4
 returns-4 c = c.made4.ensures ∙ ap (said c.before.before.before.args.first) (sym c.before.enum-told3.given.1)
 
-pub said-jpeg-spec : {M : Type 1} → statement M
-said-jpeg-spec =
+pub said_jpeg_spec : {M : Type 1} → statement M
+said_jpeg_spec =
     tie.close
     (tie.spec
     enum_told

@@ -2,7 +2,7 @@
 -- Assumes nothing.
 use mathlib.Core.Path.{ap, sym, ◌∙◌}
 use Rattle.matrix.specs.declared.Expanded.{Expanded}
-use Rattle.matrix.specs.Expanded.{replyOf}
+use Rattle.matrix.specs.Expanded.{reply_of}
 use Rattle.capi.specs.Said.{said_of}
 use Rattle.capi.specs.declared.reply.Said.{Said}
 use borrow.Author.Rules.{rules}
@@ -10,7 +10,7 @@ use Rattle.capi.proofs.kind.said_expanded.Statement.{statement}
 use Rattle.capi.proofs.kind.said_expanded.Tie as tie
 
 abbrev said : Expanded → Said
-said f = said_of (replyOf f)
+said f = said_of (reply_of f)
 
 enum_told : tie.Need-enum-told
 enum_told c = search rules
@@ -66,8 +66,8 @@ returns-5 c = c.made5.ensures ∙ ap said (sym c.before.before.found3.given.1)
 returns-6 : tie.Need-returns-6
 returns-6 c = c.made6.ensures ∙ ap said (sym c.before.before.found4.given.1)
 
-pub said-expanded-spec : {M : Type 1} → statement M
-said-expanded-spec =
+pub said_expanded_spec : {M : Type 1} → statement M
+said_expanded_spec =
     tie.close
     (tie.spec
     enum_told

@@ -2,7 +2,7 @@
 -- Assumes nothing.
 use mathlib.Core.Path.{ap, sym, ◌∙◌}
 use Rattle.record.specs.declared.reader.Taken.{Taken}
-use Rattle.record.specs.Replies.{takenReply}
+use Rattle.record.specs.Replies.{taken_reply}
 use Rattle.capi.specs.Said.{said_of}
 use Rattle.capi.specs.declared.reply.Said.{Said}
 use borrow.Author.Rules.{rules}
@@ -10,7 +10,7 @@ use Rattle.capi.proofs.lines.said_taken.Statement.{statement}
 use Rattle.capi.proofs.lines.said_taken.Tie as tie
 
 abbrev said : Taken → Said
-said f = said_of (takenReply f)
+said f = said_of (taken_reply f)
 
 enum_told : tie.Need-enum-told
 enum_told c = search rules
@@ -48,8 +48,8 @@ returns-3 c = c.made3.ensures ∙ ap said (sym c.before.before.found.given.1)
 returns-4 : tie.Need-returns-4
 returns-4 c = c.made4.ensures ∙ ap said (sym c.before.before.found2.given.1)
 
-pub said-taken-spec : {M : Type 1} → statement M
-said-taken-spec =
+pub said_taken_spec : {M : Type 1} → statement M
+said_taken_spec =
     tie.close
     (tie.spec
     enum_told

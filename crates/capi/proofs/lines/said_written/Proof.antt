@@ -2,7 +2,7 @@
 -- Assumes nothing.
 use mathlib.Core.Path.{ap, sym, ◌∙◌}
 use Rattle.record.specs.declared.writer.Written.{Written}
-use Rattle.record.specs.Replies.{writtenReply}
+use Rattle.record.specs.Replies.{written_reply}
 use Rattle.capi.specs.Said.{said_of}
 use Rattle.capi.specs.declared.reply.Said.{Said}
 use borrow.Author.Rules.{rules}
@@ -10,7 +10,7 @@ use Rattle.capi.proofs.lines.said_written.Statement.{statement}
 use Rattle.capi.proofs.lines.said_written.Tie as tie
 
 abbrev said : Written → Said
-said f = said_of (writtenReply f)
+said f = said_of (written_reply f)
 
 enum-known-found : tie.Need-enum-known-found
 enum-known-found c = search rules
@@ -48,8 +48,8 @@ returns-3 c = c.made3.ensures ∙ ap said (sym c.before.before.found2.given.1)
 returns-4 : tie.Need-returns-4
 returns-4 c = c.made4.ensures ∙ ap said (sym c.before.before.found3.given.1)
 
-pub said-written-spec : {M : Type 1} → statement M
-said-written-spec =
+pub said_written_spec : {M : Type 1} → statement M
+said_written_spec =
     tie.close
     (tie.spec
     enum-known-found

@@ -21,7 +21,7 @@ same_length c = search rules
 returns : tie.Need-returns
 returns c = (refl, filled c.args.reply.now c.requires c.args.said.first c.args.said.second c.args.said.third)
 
-pub say-spec : {M : Type 1} → statement M
-say-spec =
+pub say_spec : {M : Type 1} → statement M
+say_spec =
     tie.close
     (tie.spec slice-write-reply slice-write-reply-2 slice-write-reply-3 same_length returns)

@@ -3,10 +3,10 @@
 use mathlib.Core.Path.{ap, ◌∙◌}
 use lib.ListN.{length}
 use Rattle.matrix.specs.declared.Expanded.{Expanded}
-use Rattle.matrix.specs.Expanded.{leaves, replyOf}
-use Rattle.dequant.specs.Set.{expandSet, straightArena, transposedArena}
+use Rattle.matrix.specs.Expanded.{leaves, reply_of}
+use Rattle.dequant.specs.Set.{expand_set, straight_arena, transposed_arena}
 use Rattle.capi.specs.Said.{said_of}
-use Rattle.capi.proofs.Replies.{returned-other, held-other, kept-other, returned-said, held-said, kept-right}
+use Rattle.capi.proofs.Replies.{returned_other, held_other, kept_other, returned_said, held_said, kept_right}
 use borrow.Author.Rules.{rules}
 use Rattle.capi.proofs.set.dequant_expand.Statement.{statement}
 use Rattle.capi.proofs.set.dequant_expand.Tie as tie
@@ -14,9 +14,9 @@ use Rattle.capi.proofs.set.dequant_expand.Tie as tie
 returns : tie.Need-returns
 returns c =
     let a = c.before.before.before.before.before.args in
-    let r = expandSet a.rows.now a.samples.now (length a.straight.now) (length a.transposed.now) in
+    let r = expand_set a.rows.now a.samples.now (length a.straight.now) (length a.transposed.now) in
     let other = c.if1.true in
-    (returned-other a.reply.now (replyOf r) other, (held-other a.reply.now (replyOf r) other, (kept-other a.reply.now (leaves r (straightArena a.rows.now a.samples.now) a.straight.now) a.straight.now other, kept-other a.reply.now (leaves r (transposedArena a.rows.now a.samples.now) a.transposed.now) a.transposed.now other)))
+    (returned_other a.reply.now (reply_of r) other, (held_other a.reply.now (reply_of r) other, (kept_other a.reply.now (leaves r (straight_arena a.rows.now a.samples.now) a.straight.now) a.straight.now other, kept_other a.reply.now (leaves r (transposed_arena a.rows.now a.samples.now) a.transposed.now) a.transposed.now other)))
 
 expand-requires : tie.Need-expand-requires
 expand-requires c κs = search rules
@@ -39,18 +39,18 @@ same-length-3 c = search rules
 returns-2 : tie.Need-returns-2
 returns-2 c =
     let a = c.before.before.before.before.before.before.before.before.before.before.before.before.before.before.before.before.before.args in
-    let r = expandSet a.rows.now a.samples.now (length a.straight.now) (length a.transposed.now) in
+    let r = expand_set a.rows.now a.samples.now (length a.straight.now) (length a.transposed.now) in
     let right = c.before.before.before.before.before.before.before.before.before.before.before.before.if1.false in
     let done = c.before.before.before.before.before.before.before.before.before.expand.ensures in
     let s = c.before.before.before.before.said-expanded.result in
-    let is = c.before.before.before.before.said-expanded.ensures ∙ ap (λ (f : Expanded). said_of (replyOf f)) done.0 in
+    let is = c.before.before.before.before.said-expanded.ensures ∙ ap (λ (f : Expanded). said_of (reply_of f)) done.0 in
     let told = c.before.before.say.ensures in
-    let one = done.1.0 ∙ ap (λ (f : Expanded). leaves f (straightArena a.rows.now a.samples.now) a.straight.now) done.0 in
-    let two = done.1.1 ∙ ap (λ (f : Expanded). leaves f (transposedArena a.rows.now a.samples.now) a.transposed.now) done.0 in
-    (told.0 ∙ returned-said a.reply.now (replyOf r) s is right, (told.1 ∙ held-said a.reply.now (replyOf r) s is right, (one ∙ kept-right a.reply.now (leaves r (straightArena a.rows.now a.samples.now) a.straight.now) a.straight.now right, two ∙ kept-right a.reply.now (leaves r (transposedArena a.rows.now a.samples.now) a.transposed.now) a.transposed.now right)))
+    let one = done.1.0 ∙ ap (λ (f : Expanded). leaves f (straight_arena a.rows.now a.samples.now) a.straight.now) done.0 in
+    let two = done.1.1 ∙ ap (λ (f : Expanded). leaves f (transposed_arena a.rows.now a.samples.now) a.transposed.now) done.0 in
+    (told.0 ∙ returned_said a.reply.now (reply_of r) s is right, (told.1 ∙ held_said a.reply.now (reply_of r) s is right, (one ∙ kept_right a.reply.now (leaves r (straight_arena a.rows.now a.samples.now) a.straight.now) a.straight.now right, two ∙ kept_right a.reply.now (leaves r (transposed_arena a.rows.now a.samples.now) a.transposed.now) a.transposed.now right)))
 
-pub dequant-expand-spec : {M : Type 1} → statement M
-dequant-expand-spec =
+pub dequant_expand_spec : {M : Type 1} → statement M
+dequant_expand_spec =
     tie.close
     (tie.spec
     returns

@@ -6,11 +6,11 @@ use lib.ListN.{length}
 use Rattle.short_arena.specs.declared.held.State.{State}
 use Rattle.short_arena.specs.declared.arena.Answer.{Answer}
 use Rattle.short_arena.specs.declared.arena.Step.{Step}
-use Rattle.short_arena.specs.Short.{shortReply, addAnswer, addState, addArena}
-use Rattle.capi.specs.Bytes.{stateIn, addBytes}
-use Rattle.capi.specs.Said.{said_of, Small, putBytes}
-use Rattle.capi.proofs.Replies.{returned-other, held-other, kept-other, returned-said, held-said, kept-right}
-use Rattle.capi.proofs.StateBytes.{in_small, add_small, add-bytes}
+use Rattle.short_arena.specs.Short.{short_reply, add_answer, add_state, add_arena}
+use Rattle.capi.specs.Bytes.{state_in, add_bytes}
+use Rattle.capi.specs.Said.{said_of, Small, put_bytes}
+use Rattle.capi.proofs.Replies.{returned_other, held_other, kept_other, returned_said, held_said, kept_right}
+use Rattle.capi.proofs.StateBytes.{in_small, add_small, add_bytes_lem}
 use Rattle.capi.proofs.short.dequant_short_add.Statement.{statement}
 use Rattle.capi.proofs.short.dequant_short_add.Tie as tie
 
@@ -20,14 +20,14 @@ returns c =
     let l = a.arena.now in
     let b = a.state.now in
     let ws = a.weights.now in
-    let said = shortReply (addAnswer (length l) (stateIn b) a.kind (length ws)) in
+    let said = short_reply (add_answer (length l) (state_in b) a.kind (length ws)) in
     let other = c.if1.true in (
-      returned-other a.reply.now said other,
+      returned_other a.reply.now said other,
       (
-        held-other a.reply.now said other,
+        held_other a.reply.now said other,
         (
-          kept-other a.reply.now (addArena l (stateIn b) a.kind ws) l other,
-          kept-other a.reply.now (addBytes (length l) b a.kind (length ws)) b other,
+          kept_other a.reply.now (add_arena l (state_in b) a.kind ws) l other,
+          kept_other a.reply.now (add_bytes (length l) b a.kind (length ws)) b other,
         ),
       ),
     )
@@ -45,22 +45,22 @@ Made = tie.After-add
 abbrev start : Made → tie.Start
 start c = c.before.before.before.before.before.before.before.before.before
 
-answered : (c : Made) → c.add.result.answer ≡ addAnswer (length (start c).args.arena.now) (stateIn (start c).args.state.now) (start c).args.kind (length (start c).args.weights.now)
+answered : (c : Made) → c.add.result.answer ≡ add_answer (length (start c).args.arena.now) (state_in (start c).args.state.now) (start c).args.kind (length (start c).args.weights.now)
 answered c =
     let a = (start c).args in
-    ap (λ (s : Step). s.answer) c.add.ensures.0 ∙ ap (λ (t : State). addAnswer (length a.arena.now) t a.kind (length a.weights.now)) c.before.state-of.ensures
+    ap (λ (s : Step). s.answer) c.add.ensures.0 ∙ ap (λ (t : State). add_answer (length a.arena.now) t a.kind (length a.weights.now)) c.before.state-of.ensures
 
-stated : (c : Made) → c.add.result.state ≡ addState (length (start c).args.arena.now) (stateIn (start c).args.state.now) (start c).args.kind (length (start c).args.weights.now)
+stated : (c : Made) → c.add.result.state ≡ add_state (length (start c).args.arena.now) (state_in (start c).args.state.now) (start c).args.kind (length (start c).args.weights.now)
 stated c =
     let a = (start c).args in
-    ap (λ (s : Step). s.state) c.add.ensures.0 ∙ ap (λ (t : State). addState (length a.arena.now) t a.kind (length a.weights.now)) c.before.state-of.ensures
+    ap (λ (s : Step). s.state) c.add.ensures.0 ∙ ap (λ (t : State). add_state (length a.arena.now) t a.kind (length a.weights.now)) c.before.state-of.ensures
 
 put-state-requires : tie.Need-put-state-requires
 put-state-requires c κs =
     let d = c.before.before.before.before in
     let a = (start d).args in
     let small = in_small a.state.now (λ i. (d.before.before.before.before.before.before.before.slice-known2.given i).fits) in
-    subst Small (sym (stated d)) (add_small (length a.arena.now) (stateIn a.state.now) a.kind small (length a.weights.now))
+    subst Small (sym (stated d)) (add_small (length a.arena.now) (state_in a.state.now) a.kind small (length a.weights.now))
 
 said-short-requires : tie.Need-said-short-requires
 said-short-requires c κs = search rules
@@ -85,23 +85,23 @@ returns-2 c =
     let l = a.arena.now in
     let b = a.state.now in
     let ws = a.weights.now in
-    let said = shortReply (addAnswer (length l) (stateIn b) a.kind (length ws)) in
+    let said = short_reply (add_answer (length l) (state_in b) a.kind (length ws)) in
     let right = d.before.before.before.before.if1.false in
     let s = c.before.before.before.before.said-short in
-    let is = s.ensures ∙ ap (λ (f : Answer). said_of (shortReply f)) (answered d) in
+    let is = s.ensures ∙ ap (λ (f : Answer). said_of (short_reply f)) (answered d) in
     let told = c.before.before.say.ensures in (
-      told.0 ∙ returned-said a.reply.now said s.result is right,
+      told.0 ∙ returned_said a.reply.now said s.result is right,
       (
-        told.1 ∙ held-said a.reply.now said s.result is right,
+        told.1 ∙ held_said a.reply.now said s.result is right,
         (
-          d.add.ensures.1 ∙ ap (λ (t : State). addArena l t a.kind ws) d.before.state-of.ensures ∙ kept-right a.reply.now (addArena l (stateIn b) a.kind ws) l right,
-          o.put-state.ensures ∙ ap (putBytes b) (stated d) ∙ add-bytes (length l) b a.kind (length ws) ∙ kept-right a.reply.now (addBytes (length l) b a.kind (length ws)) b right,
+          d.add.ensures.1 ∙ ap (λ (t : State). add_arena l t a.kind ws) d.before.state-of.ensures ∙ kept_right a.reply.now (add_arena l (state_in b) a.kind ws) l right,
+          o.put-state.ensures ∙ ap (put_bytes b) (stated d) ∙ add_bytes_lem (length l) b a.kind (length ws) ∙ kept_right a.reply.now (add_bytes (length l) b a.kind (length ws)) b right,
         ),
       ),
     )
 
-pub dequant-short-add-spec : {M : Type 1} → statement M
-dequant-short-add-spec =
+pub dequant_short_add_spec : {M : Type 1} → statement M
+dequant_short_add_spec =
     tie.close
     (tie.spec
     returns

@@ -5,18 +5,18 @@ use borrow.Author.Rules.{rules}
 use lib.ListN.{length}
 use Rattle.short_arena.specs.declared.held.State.{State}
 use Rattle.short_arena.specs.declared.arena.Answer.{Answer}
-use Rattle.short_arena.specs.Short.{shortReply, findAnswer}
-use Rattle.capi.specs.Bytes.{stateIn}
+use Rattle.short_arena.specs.Short.{short_reply, find_answer}
+use Rattle.capi.specs.Bytes.{state_in}
 use Rattle.capi.specs.Said.{said_of}
-use Rattle.capi.proofs.Replies.{returned-other, held-other, returned-said, held-said}
+use Rattle.capi.proofs.Replies.{returned_other, held_other, returned_said, held_said}
 use Rattle.capi.proofs.short.dequant_short_lookup.Statement.{statement}
 use Rattle.capi.proofs.short.dequant_short_lookup.Tie as tie
 
 returns : tie.Need-returns
 returns c =
     let a = c.before.before.before.before.args in
-    let said = shortReply (findAnswer (length a.arena.now) (stateIn a.state.now) a.kind) in
-    (returned-other a.reply.now said c.if1.true, held-other a.reply.now said c.if1.true)
+    let said = short_reply (find_answer (length a.arena.now) (state_in a.state.now) a.kind) in
+    (returned_other a.reply.now said c.if1.true, held_other a.reply.now said c.if1.true)
 
 state-of-requires : tie.Need-state-of-requires
 state-of-requires c κs = search rules
@@ -38,16 +38,16 @@ returns-2 c =
     let d = c.before.before.before.before.before in
     let a = d.before.before.before.before.before.before.args in
     let n = length a.arena.now in
-    let said = shortReply (findAnswer n (stateIn a.state.now) a.kind) in
+    let said = short_reply (find_answer n (state_in a.state.now) a.kind) in
     let right = d.before.before.if1.false in
     let s = c.before.before.before.before.said-short in
-    let found = d.lookup-reply.ensures ∙ ap (λ (t : State). findAnswer n t a.kind) d.before.state-of.ensures in
-    let is = s.ensures ∙ ap (λ (f : Answer). said_of (shortReply f)) found in
+    let found = d.lookup-reply.ensures ∙ ap (λ (t : State). find_answer n t a.kind) d.before.state-of.ensures in
+    let is = s.ensures ∙ ap (λ (f : Answer). said_of (short_reply f)) found in
     let told = c.before.before.say.ensures in
-    (told.0 ∙ returned-said a.reply.now said s.result is right, told.1 ∙ held-said a.reply.now said s.result is right)
+    (told.0 ∙ returned_said a.reply.now said s.result is right, told.1 ∙ held_said a.reply.now said s.result is right)
 
-pub dequant-short-lookup-spec : {M : Type 1} → statement M
-dequant-short-lookup-spec =
+pub dequant_short_lookup_spec : {M : Type 1} → statement M
+dequant_short_lookup_spec =
     tie.close
     (tie.spec
     returns

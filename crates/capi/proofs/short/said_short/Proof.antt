@@ -3,13 +3,13 @@ use mathlib.Core.Path.{sym, ap, ◌∙◌}
 use borrow.Author.Rules.{rules}
 use Rattle.capi.specs.declared.reply.Said.{Said}
 use Rattle.capi.specs.Said.{said_of}
-use Rattle.short_arena.specs.Short.{shortReply}
+use Rattle.short_arena.specs.Short.{short_reply}
 use Rattle.short_arena.specs.declared.arena.Answer.{Answer}
 use Rattle.capi.proofs.short.said_short.Statement.{statement}
 use Rattle.capi.proofs.short.said_short.Tie as tie
 
 abbrev saying : Answer → Said
-saying f = said_of (shortReply f)
+saying f = said_of (short_reply f)
 
 enum_told : tie.Need-enum-told
 enum_told c = search rules
@@ -65,8 +65,8 @@ returns-5 c = c.made5.ensures ∙ ap saying (sym c.before.enum-told4.given.1)
 returns-6 : tie.Need-returns-6
 returns-6 c = c.made6.ensures ∙ ap saying (sym c.before.enum-told5.given.1)
 
-pub said-short-spec : {M : Type 1} → statement M
-said-short-spec =
+pub said_short_spec : {M : Type 1} → statement M
+said_short_spec =
     tie.close
     (tie.spec
     enum_told

@@ -5,9 +5,9 @@ use mathlib.Core.Bool.{true}
 use Prim.Native.Nat.{◌+◌, ◌*◌, ◌≤◌}
 use native.Mathlib.Omega.{arith}
 use Rattle.dequant.specs.Shown.{found}
-use Rattle.dequant.proofs.Parts.{is_found, span-end}
+use Rattle.dequant.proofs.Parts.{is_found, span_end}
 use Rattle.capi.specs.Said.{said_of}
-use Rattle.capi.proofs.Places.{unknown-order, not_there, worked-out}
+use Rattle.capi.proofs.Places.{unknown_order, not_there, worked_out}
 use borrow.Author.Rules.{rules}
 use borrow.Author.Tests.{not-true, not-false}
 use Rattle.capi.proofs.shown.said_part.Statement.{statement}
@@ -19,7 +19,7 @@ yes c = sym c.before.before.before.names.ensures ∙ not-false c.before.before.b
 ends : (c : tie.After-arena-start) → c.arena-start.result + c.before.before.before.before.before.args.channel * c.before.area.result + c.before.area.result ≤ 394752
 ends c =
     let a = c.before.before.before.before.before.args in
-    rw (c.arena-start.ensures, c.before.area.ensures) (span-end a.kind a.channel (is_found a.kind a.channel a.s a.t (yes c)).channel)
+    rw (c.arena-start.ensures, c.before.area.ensures) (span_end a.kind a.channel (is_found a.kind a.channel a.s a.t (yes c)).channel)
 
 made-requires : tie.Need-made-requires
 made-requires c κs = search rules
@@ -27,7 +27,7 @@ made-requires c κs = search rules
 returns : tie.Need-returns
 returns c =
     let a = c.before.before.args in
-    c.made.ensures ∙ ap said_of (unknown-order a.s a.t a.kind a.channel a.order c.before.if1.true)
+    c.made.ensures ∙ ap said_of (unknown_order a.s a.t a.kind a.channel a.order c.before.if1.true)
 
 names-requires : tie.Need-names-requires
 names-requires c κs = search rules
@@ -62,10 +62,10 @@ returns-3 : tie.Need-returns-3
 returns-3 c =
     let a = c.before.before.before.before.before.before.before.args in
     c.made3.ensures
-    ∙ ap said_of (worked-out a.s a.t a.kind a.channel a.order c.before.arena-no.result c.before.before.arena-start.result c.before.before.before.area.result c.before.before.before.before.before.before.if1.false (yes c.before.before) c.before.arena-no.ensures c.before.before.arena-start.ensures c.before.before.before.area.ensures)
+    ∙ ap said_of (worked_out a.s a.t a.kind a.channel a.order c.before.arena-no.result c.before.before.arena-start.result c.before.before.before.area.result c.before.before.before.before.before.before.if1.false (yes c.before.before) c.before.arena-no.ensures c.before.before.arena-start.ensures c.before.before.before.area.ensures)
 
-pub said-part-spec : {M : Type 1} → statement M
-said-part-spec =
+pub said_part_spec : {M : Type 1} → statement M
+said_part_spec =
     tie.close
     (tie.spec
     made-requires

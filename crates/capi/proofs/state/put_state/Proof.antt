@@ -7,7 +7,7 @@ use borrow.Author.Rules.{rules}
 use lib.ListN.{length, get_or, set, length-set}
 use lib.Seq.{paste, paste-zero, paste-suc}
 use Rattle.short_arena.proofs.Lending.{seventeen}
-use Rattle.capi.proofs.StateBytes.{other-bytes, right-bytes, all-put}
+use Rattle.capi.proofs.StateBytes.{other_bytes, right_bytes, all_put}
 use Rattle.capi.proofs.state.put_state.Statement.{statement}
 use Rattle.capi.proofs.state.put_state.Tie as tie
 
@@ -22,7 +22,7 @@ full : (c : tie.Else1 invariant-loop decreases-loop) → length c.before.args.st
 full c = seventeen c.before.args.state.kinds c.before.well-formed.0.1.1.1.0.1.0.1
 
 returns : tie.Need-returns invariant-loop decreases-loop
-returns c = other-bytes c.before.args.bytes.now c.before.args.state c.if1.true
+returns c = other_bytes c.before.args.bytes.now c.before.args.state c.if1.true
 
 loop-holds : tie.Need-loop-init invariant-loop decreases-loop
 loop-holds c = let a = c.before.before.args in (search rules, refl, paste-zero a.bytes.now 1 a.state.kinds)
@@ -77,11 +77,11 @@ returns-2 c =
     let a = d.before.args in
     let e : l.i ≡ 17 = search rules in
     ap (λ (x : List ℕ). set x 0 a.state.count) (l.invariant.2 ∙ ap (paste a.bytes.now 1 a.state.kinds) e)
-    ∙ all-put a.bytes.now a.state.count a.state.kinds d.if1.false (full d)
-    ∙ right-bytes a.bytes.now a.state d.if1.false
+    ∙ all_put a.bytes.now a.state.count a.state.kinds d.if1.false (full d)
+    ∙ right_bytes a.bytes.now a.state d.if1.false
 
-pub put-state-spec : {M : Type 1} → statement M
-put-state-spec =
+pub put_state_spec : {M : Type 1} → statement M
+put_state_spec =
     tie.close
     (tie.spec
     invariant-loop

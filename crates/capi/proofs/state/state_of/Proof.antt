@@ -8,8 +8,8 @@ use native.Mathlib.Omega.{arith}
 use borrow.Author.Rules.{rules}
 use lib.ListN.{get_or, set, drop, replicate, length-drop, length-replicate}
 use lib.Seq.{paste, paste-zero, paste-suc, get_or-drop}
-use Rattle.short_arena.proofs.States.{same-state}
-use Rattle.capi.proofs.StateBytes.{other-state, right-state, all_read}
+use Rattle.short_arena.proofs.States.{same_state}
+use Rattle.capi.proofs.StateBytes.{other_state, right_state, all_read}
 use Rattle.capi.proofs.state.state_of.Statement.{statement}
 use Rattle.capi.proofs.state.state_of.Tie as tie
 
@@ -20,7 +20,7 @@ abbrev decreases-loop : tie.decreases-loop
 decreases-loop bytes kinds₀ i₀ kinds i = 17 - i
 
 returns : tie.Need-returns invariant-loop decreases-loop
-returns c = other-state c.before.before.args.bytes.now c.if1.true
+returns c = other_state c.before.before.args.bytes.now c.if1.true
 
 loop-holds : tie.Need-loop-init invariant-loop decreases-loop
 loop-holds c = (omega arith, paste-zero (replicate 17 0) 0 (drop 1 c.before.before.args.bytes.now))
@@ -72,11 +72,11 @@ returns-2 c =
     let b = c.before.before.before.before.before.before.args.bytes.now in
     let d = length-drop 1 b in
     let e : l.i ≡ 17 = search rules in
-    same-state c.wide2.result (get_or b 0 0) l.kinds (drop 1 b) c.wide2.ensures (l.invariant.1 ∙ ap (paste (replicate 17 0) 0 (drop 1 b)) e ∙ all_read (drop 1 b) (search rules))
-    ∙ right-state b (search rules)
+    same_state c.wide2.result (get_or b 0 0) l.kinds (drop 1 b) c.wide2.ensures (l.invariant.1 ∙ ap (paste (replicate 17 0) 0 (drop 1 b)) e ∙ all_read (drop 1 b) (search rules))
+    ∙ right_state b (search rules)
 
-pub state-of-spec : {M : Type 1} → statement M
-state-of-spec =
+pub state_of_spec : {M : Type 1} → statement M
+state_of_spec =
     tie.close
     (tie.spec
     invariant-loop

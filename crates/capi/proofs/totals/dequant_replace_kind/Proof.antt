@@ -2,9 +2,9 @@
 -- Assumes nothing.
 use mathlib.Core.Path.{ap, ◌∙◌}
 use Rattle.total.specs.declared.Total.{Total}
-use Rattle.total.specs.Total.{totalReply, replaceAnswer, replaceArena}
+use Rattle.total.specs.Total.{total_reply, replace_answer, replace_arena}
 use Rattle.capi.specs.Said.{said_of}
-use Rattle.capi.proofs.Replies.{returned-other, held-other, kept-other, returned-said, held-said, kept-right}
+use Rattle.capi.proofs.Replies.{returned_other, held_other, kept_other, returned_said, held_said, kept_right}
 use borrow.Author.Rules.{rules}
 use Rattle.capi.proofs.totals.dequant_replace_kind.Statement.{statement}
 use Rattle.capi.proofs.totals.dequant_replace_kind.Tie as tie
@@ -12,10 +12,10 @@ use Rattle.capi.proofs.totals.dequant_replace_kind.Tie as tie
 returns : tie.Need-returns
 returns c =
     let a = c.before.before.before.before.args in
-    let l = totalReply (replaceAnswer a.arena.now a.total a.kind a.weights.now) in
-    let new = replaceArena a.arena.now a.kind a.weights.now in
+    let l = total_reply (replace_answer a.arena.now a.total a.kind a.weights.now) in
+    let new = replace_arena a.arena.now a.kind a.weights.now in
     let other = c.if1.true in
-    (returned-other a.reply.now l other, (held-other a.reply.now l other, kept-other a.reply.now new a.arena.now other))
+    (returned_other a.reply.now l other, (held_other a.reply.now l other, kept_other a.reply.now new a.arena.now other))
 
 replace-kind-requires : tie.Need-replace-kind-requires
 replace-kind-requires c κs = search rules
@@ -35,17 +35,17 @@ same-length-2 c = search rules
 returns-2 : tie.Need-returns-2
 returns-2 c =
     let a = c.before.before.before.before.before.before.before.before.before.before.before.before.before.args in
-    let l = totalReply (replaceAnswer a.arena.now a.total a.kind a.weights.now) in
-    let new = replaceArena a.arena.now a.kind a.weights.now in
+    let l = total_reply (replace_answer a.arena.now a.total a.kind a.weights.now) in
+    let new = replace_arena a.arena.now a.kind a.weights.now in
     let right = c.before.before.before.before.before.before.before.before.before.if1.false in
     let s = c.before.before.before.before.said-total in
     let done = c.before.before.before.before.before.before.before.replace-kind.ensures in
-    let is = s.ensures ∙ ap (λ (f : Total). said_of (totalReply f)) done.0 in
+    let is = s.ensures ∙ ap (λ (f : Total). said_of (total_reply f)) done.0 in
     let told = c.before.before.say.ensures in
-    (told.0 ∙ returned-said a.reply.now l s.result is right, (told.1 ∙ held-said a.reply.now l s.result is right, done.1 ∙ kept-right a.reply.now new a.arena.now right))
+    (told.0 ∙ returned_said a.reply.now l s.result is right, (told.1 ∙ held_said a.reply.now l s.result is right, done.1 ∙ kept_right a.reply.now new a.arena.now right))
 
-pub dequant-replace-kind-spec : {M : Type 1} → statement M
-dequant-replace-kind-spec =
+pub dequant_replace_kind_spec : {M : Type 1} → statement M
+dequant_replace_kind_spec =
     tie.close
     (tie.spec
     returns

@@ -2,9 +2,9 @@
 -- Assumes nothing.
 use mathlib.Core.Path.{ap, ◌∙◌}
 use Rattle.total.specs.declared.Total.{Total}
-use Rattle.total.specs.Total.{totalReply, totalAnswer}
+use Rattle.total.specs.Total.{total_reply, total_answer}
 use Rattle.capi.specs.Said.{said_of}
-use Rattle.capi.proofs.Replies.{returned-other, held-other, returned-said, held-said}
+use Rattle.capi.proofs.Replies.{returned_other, held_other, returned_said, held_said}
 use borrow.Author.Rules.{rules}
 use Rattle.capi.proofs.totals.dequant_total.Statement.{statement}
 use Rattle.capi.proofs.totals.dequant_total.Tie as tie
@@ -12,8 +12,8 @@ use Rattle.capi.proofs.totals.dequant_total.Tie as tie
 returns : tie.Need-returns
 returns c =
     let a = c.before.before.before.args in
-    let l = totalReply (totalAnswer a.arena.now a.first a.count) in
-    (returned-other a.reply.now l c.if1.true, held-other a.reply.now l c.if1.true)
+    let l = total_reply (total_answer a.arena.now a.first a.count) in
+    (returned_other a.reply.now l c.if1.true, held_other a.reply.now l c.if1.true)
 
 stretch-total-requires : tie.Need-stretch-total-requires
 stretch-total-requires c κs = search rules
@@ -30,15 +30,15 @@ same_length c = search rules
 returns-2 : tie.Need-returns-2
 returns-2 c =
     let a = c.before.before.before.before.before.before.before.before.before.args in
-    let l = totalReply (totalAnswer a.arena.now a.first a.count) in
+    let l = total_reply (total_answer a.arena.now a.first a.count) in
     let right = c.before.before.before.before.before.before.if1.false in
     let s = c.before.before.before.before.said-total in
-    let is = s.ensures ∙ ap (λ (f : Total). said_of (totalReply f)) c.before.before.before.before.before.stretch-total.ensures in
+    let is = s.ensures ∙ ap (λ (f : Total). said_of (total_reply f)) c.before.before.before.before.before.stretch-total.ensures in
     let told = c.before.before.say.ensures in
-    (told.0 ∙ returned-said a.reply.now l s.result is right, told.1 ∙ held-said a.reply.now l s.result is right)
+    (told.0 ∙ returned_said a.reply.now l s.result is right, told.1 ∙ held_said a.reply.now l s.result is right)
 
-pub dequant-total-spec : {M : Type 1} → statement M
-dequant-total-spec =
+pub dequant_total_spec : {M : Type 1} → statement M
+dequant_total_spec =
     tie.close
     (tie.spec
     returns

@@ -5,16 +5,16 @@ use Prim.Native.Nat.{◌-◌, ◌≤◌}
 use native.Mathlib.Omega.{arith}
 use borrow.Author.Rules.{rules}
 use Rattle.transform.specs.First.{before}
-use Rattle.transform.proofs.FirstLaws.{before_more, before-stop, before-all}
-use Rattle.matrix.specs.Raw.{oddRow}
-use Rattle.dequant.specs.Set.{denomFault}
-use Rattle.dequant.proofs.Lent.{notOdd}
-use Rattle.dequant.proofs.Kindwise.{cut-row}
+use Rattle.transform.proofs.FirstLaws.{before_more, before_stop, before_all}
+use Rattle.matrix.specs.Raw.{odd_row}
+use Rattle.dequant.specs.Set.{denom_fault}
+use Rattle.dequant.proofs.Lent.{not_odd}
+use Rattle.dequant.proofs.Kindwise.{cut_row}
 use Rattle.dequant.proofs.set.first_odd.Statement.{statement}
 use Rattle.dequant.proofs.set.first_odd.Tie as tie
 
 abbrev invariant-loop : tie.invariant-loop
-invariant-loop rows k₀ k = (k ≤ 17) × (before (notOdd rows) k ≡ k)
+invariant-loop rows k₀ k = (k ≤ 17) × (before (not_odd rows) k ≡ k)
 
 abbrev decreases-loop : tie.decreases-loop
 decreases-loop rows k₀ k = 17 - k
@@ -44,12 +44,12 @@ is-odd-requires : tie.Need-is-odd-requires invariant-loop decreases-loop
 is-odd-requires c κs = search rules
 
 returns : tie.Need-returns invariant-loop decreases-loop
-unfolding denomFault
+unfolding denom_fault
 returns c =
     let rows = c.before.before.before.before.before.before.args.rows.now in
     let l = c.before.before.before.before.loop in
-    let odd = sym (c.before.is_odd.ensures ∙ ap oddRow (cut-row l.k rows)) ∙ c.if1.true in
-    sym (before-stop (notOdd rows) l.k 17 l.invariant.1 (ap not odd) c.before.before.before.loop-test.true)
+    let odd = sym (c.before.is_odd.ensures ∙ ap odd_row (cut_row l.k rows)) ∙ c.if1.true in
+    sym (before_stop (not_odd rows) l.k 17 l.invariant.1 (ap not odd) c.before.before.before.loop-test.true)
 
 add-k : tie.Need-overflow-add-k invariant-loop decreases-loop
 add-k c = omega arith
@@ -61,17 +61,17 @@ loop-again : tie.Need-loop-preserved invariant-loop decreases-loop
 loop-again c =
     let rows = c.before.before.before.before.before.before.args.rows.now in
     let l = c.before.before.before.before.loop in
-    let above = sym (c.before.is_odd.ensures ∙ ap oddRow (cut-row l.k rows)) ∙ c.if1.false in
-    (omega arith, before_more (notOdd rows) l.k l.invariant.1 (ap not above))
+    let above = sym (c.before.is_odd.ensures ∙ ap odd_row (cut_row l.k rows)) ∙ c.if1.false in
+    (omega arith, before_more (not_odd rows) l.k l.invariant.1 (ap not above))
 
 returns-2 : tie.Need-returns-2 invariant-loop decreases-loop
-unfolding denomFault
+unfolding denom_fault
 returns-2 c =
     let l = c.before.loop in
-    before-all (notOdd c.before.before.before.args.rows.now) l.k 17 l.invariant.1 l.invariant.0 (omega arith)
+    before_all (not_odd c.before.before.before.args.rows.now) l.k 17 l.invariant.1 l.invariant.0 (omega arith)
 
-pub first-odd-spec : {M : Type 1} → statement M
-first-odd-spec =
+pub first_odd_spec : {M : Type 1} → statement M
+first_odd_spec =
     tie.close
     (tie.spec
     invariant-loop

@@ -1,7 +1,7 @@
 -- `set::is_odd` by its two tests. Assumes nothing.
 use mathlib.Core.Path.{sym, ◌∙◌}
 use borrow.Author.Rules.{rules}
-use Rattle.matrix.proofs.OddLaws.{plain_row, raw_row}
+use Rattle.matrix.proofs.OddLaws.{plain_row, raw_row_lem}
 use Rattle.dequant.proofs.set.is_odd.Statement.{statement}
 use Rattle.dequant.proofs.set.is_odd.Tie as tie
 
@@ -18,10 +18,10 @@ odd-denominator-requires : tie.Need-odd-denominator-requires
 odd-denominator-requires c κs = search rules
 
 returns-2 : tie.Need-returns-2
-returns-2 c = c.odd-denominator.ensures ∙ sym (raw_row _ c.before.before.if1.false)
+returns-2 c = c.odd-denominator.ensures ∙ sym (raw_row_lem _ c.before.before.if1.false)
 
-pub is-odd-spec : {M : Type 1} → statement M
-is-odd-spec =
+pub is_odd_spec : {M : Type 1} → statement M
+is_odd_spec =
     tie.close
     (tie.spec
     shared-slice-read-if1

@@ -18,11 +18,11 @@ use borrow.Within.Token.{Rest, within_token, within_end}
 use denote.Lend.{lends_ref, ref_back}
 use denote.Memory.{mem}
 use denote.Ref.{MutRef}
-use Rattle.bitstream.proofs.Held.{mach, bytes-val, Held, OwnBytes, held-typed', placed, taken}
-use Rattle.bitstream.specs.Held.{inHand}
+use Rattle.bitstream.proofs.Held.{mach, bytes_val, Held, OwnBytes, held_typed', placed, taken}
+use Rattle.bitstream.specs.Held.{in_hand}
 use Rattle.bitstream.specs.declared.Bitstream.{Bitstream}
 use Rattle.bitstream.proofs.Bitstream.TheLaws as T'
-use Rattle.params.specs.Header.{readHeader}
+use Rattle.params.specs.Header.{read_header}
 use Rattle.params.specs.Next.{bit_of}
 use Rattle.params.specs.declared.read.Reading.{Reading}
 use Rattle.params.specs.contracts.read.Reading as S
@@ -75,7 +75,7 @@ module _ {M : Type 1} {𝓤 : Ura M} (𝓛 : Logic 𝓤) (at_mem : Memory → SP
   a = (s, (p, (k, (x, tt))))
 
   abbrev vals : Vals self.signature κs
-  vals = (bytes-val s ∷ [], (vint w64 p ∷ [], (vint w64 k ∷ [], (w ∷ [], tt))))
+  vals = (bytes_val s ∷ [], (vint w64 p ∷ [], (vint w64 k ∷ [], (w ∷ [], tt))))
 
   abbrev Post : Val → SProp 𝓤
   Post = (walk_of 𝓛 self.ended stayed (self.clauses 𝓛 at_mem run)).post ((κs, (q, (q', tt)), tt, a, vals), tt)
@@ -94,28 +94,28 @@ module _ {M : Type 1} {𝓤 : Ura M} (𝓛 : Logic 𝓤) (at_mem : Memory → SP
   Token = ⋆ 𝓛 (‵ (flft κ q) ∷ ‵ ftrue ∷ [])
 
   -- the call of `Bitstream::new`
-  abbrev in-new : Vals new.signature (κ, tt)
-  in-new = (bytes-val s ∷ [], (vint w64 p ∷ [], tt))
+  abbrev in_new : Vals new.signature (κ, tt)
+  in_new = (bytes_val s ∷ [], (vint w64 p ∷ [], tt))
 
-  abbrev to-new : (New 𝓛 at_mem run).Ghost
-  to-new = (((κ, tt), (q, tt), tt, (s, (p, tt)), in-new), tt)
+  abbrev to_new : (New 𝓛 at_mem run).Ghost
+  to_new = (((κ, tt), (q, tt), tt, (s, (p, tt)), in_new), tt)
 
-  asks-new : ent 𝓤 (on_entry 𝓛 new.signature (κ, tt) (q, tt) (s, (p, tt)) in-new) ((New 𝓛 at_mem run).pre to-new)
-  asks-new = qed 𝓛 (raw Token ∷ ‵ (owns (ShrSlice (named 0) κ u8 ∷ u64 ∷ []) (s, (p, tt)) in-new) ∷ []) ∵ join ! $ frame ! $ done !
+  asks_new : ent 𝓤 (on_entry 𝓛 new.signature (κ, tt) (q, tt) (s, (p, tt)) in_new) ((New 𝓛 at_mem run).pre to_new)
+  asks_new = qed 𝓛 (raw Token ∷ ‵ (owns (ShrSlice (named 0) κ u8 ∷ u64 ∷ []) (s, (p, tt)) in_new) ∷ []) ∵ join ! $ frame ! $ done !
 
-  goes-new : ent 𝓤 (on_entry 𝓛 self.signature κs (q, (q', tt)) a vals) (sep 𝓤 ((New 𝓛 at_mem run).pre to-new) Waits)
-  goes-new =
+  goes_new : ent 𝓤 (on_entry 𝓛 self.signature κs (q, (q', tt)) a vals) (sep 𝓤 ((New 𝓛 at_mem run).pre to_new) Waits)
+  goes_new =
       qed 𝓛 ((‵ (flft κ q) ⊛ (‵ (flft κ' q') ⊛ ‵ ftrue)) ∷ ‵ (owns (ShrSlice (named 0) κ u8 ∷ u64 ∷ usize ∷ MutSlice (named 1) κ' u16 ∷ []) a vals) ∷ []) ∵
       move ! (1 ∷ []) $ fsplit ! $ move ! (1 ∷ []) $ fsplit ! $ drop ! $ fsplit ! $ drop ! $ fsplit ! $ move ! (1 ∷ []) $ drop ! $
       -- [what the rows own; what s owns; the tokens]
-      move ! (1 ∷ []) $ use1 𝓛 (‵ Own ⊛ ‵ Own) ((shr_slice_copy 𝓛 (named 0) κ u8).twice s (bytes-val s ∷ [])) $ split ! $
+      move ! (1 ∷ []) $ use1 𝓛 (‵ Own ⊛ ‵ Own) ((shr_slice_copy 𝓛 (named 0) κ u8).twice s (bytes_val s ∷ [])) $ split ! $
       -- [what s owns; the same; what the rows own; the tokens]
       nothing ! $ num64 ! p p-fits $ move ! (1 ∷ 0 ∷ []) $ fjoin ! $ move ! (3 ∷ []) $ split ! $ nothing ! $ move ! (1 ∷ 0 ∷ []) $ join ! $
       -- [one token; the other; what `new` is passed; what s owns; what the rows own]
-      move ! (0 ∷ 2 ∷ []) $ use2 𝓛 (raw ((New 𝓛 at_mem run).pre to-new)) asks-new $ frame ! $ move ! (1 ∷ 2 ∷ 0 ∷ []) $ done !
+      move ! (0 ∷ 2 ∷ []) $ use2 𝓛 (raw ((New 𝓛 at_mem run).pre to_new)) asks_new $ frame ! $ move ! (1 ∷ 2 ∷ 0 ∷ []) $ done !
 
-  new-said : (r : Bitstream) → ent 𝓤 (ensured 𝓛 new.ended (new.clauses 𝓛 at_mem run) (κ, tt) (s, (p, tt)) tt r) (fact 𝓤 (r ≡ inHand s p))
-  new-said r = ex_e 𝓤 _ (λ ws. snd∗ 𝓤 (sem 𝓛 (lasts new.ended (κ, tt) (s, (p, tt)) ws)) (fact 𝓤 (r ≡ inHand s p)))
+  new_said : (r : Bitstream) → ent 𝓤 (ensured 𝓛 new.ended (new.clauses 𝓛 at_mem run) (κ, tt) (s, (p, tt)) tt r) (fact 𝓤 (r ≡ in_hand s p))
+  new_said r = ex_e 𝓤 _ (λ ws. snd∗ 𝓤 (sem 𝓛 (lasts new.ended (κ, tt) (s, (p, tt)) ws)) (fact 𝓤 (r ≡ in_hand s p)))
 
   -- the call of `parse`: the struct r lies in the local l, and is lent for β, which is within κ, under the name δ
   abbrev short : ℕ → Lft
@@ -133,33 +133,33 @@ module _ {M : Type 1} {𝓤 : Ura M} (𝓛 : Logic 𝓤) (at_mem : Memory → SP
   abbrev given' : ℕ → GName → Bitstream → Given'
   given' l δ r = (record { ref_ptr = (l, 0); ghost_name = δ; now = r }, (k, (x, tt)))
 
-  abbrev in-next : (β l : ℕ) → Vals next.signature (at_next β)
-  in-next β l = (vptr l 0 ∷ [], (vint w64 k ∷ [], (w ∷ [], tt)))
+  abbrev in_next : (β l : ℕ) → Vals next.signature (at_next β)
+  in_next β l = (vptr l 0 ∷ [], (vint w64 k ∷ [], (w ∷ [], tt)))
 
-  abbrev to-next : ℕ → ℕ → GName → Bitstream → (Next 𝓛 at_mem run).Ghost
-  to-next β l δ r = ((at_next β, (PosShare.left q, (PosShare.right q, (q', tt))), (meet_⊑_right (β ∷ []) κ, tt), given' l δ r, in-next β l), tt)
+  abbrev to_next : ℕ → ℕ → GName → Bitstream → (Next 𝓛 at_mem run).Ghost
+  to_next β l δ r = ((at_next β, (PosShare.left q, (PosShare.right q, (q', tt))), (meet_⊑_right (β ∷ []) κ, tt), given' l δ r, in_next β l), tt)
 
-  asks-next : (β l : ℕ) (δ : GName) (r : Bitstream)
-      → ent 𝓤 (on_entry 𝓛 next.signature (at_next β) (PosShare.left q, (PosShare.right q, (q', tt))) (given' l δ r) (in-next β l)) ((Next 𝓛 at_mem run).pre (to-next β l δ r))
-  asks-next β l δ r =
-      qed 𝓛 ((‵ (flft (short β) (PosShare.left q)) ⊛ ‵ (flft κ (PosShare.right q)) ⊛ ‵ (flft κ' q') ⊛ ‵ ftrue) ∷ ‵ (owns (MutRef (named 0) (short β) (Held (α κ)) ∷ usize ∷ MutSlice (named 2) κ' u16 ∷ []) (given' l δ r) (in-next β l)) ∷ []) ∵ join ! $ frame ! $ done !
+  asks_next : (β l : ℕ) (δ : GName) (r : Bitstream)
+      → ent 𝓤 (on_entry 𝓛 next.signature (at_next β) (PosShare.left q, (PosShare.right q, (q', tt))) (given' l δ r) (in_next β l)) ((Next 𝓛 at_mem run).pre (to_next β l δ r))
+  asks_next β l δ r =
+      qed 𝓛 ((‵ (flft (short β) (PosShare.left q)) ⊛ ‵ (flft κ (PosShare.right q)) ⊛ ‵ (flft κ' q') ⊛ ‵ ftrue) ∷ ‵ (owns (MutRef (named 0) (short β) (Held (α κ)) ∷ usize ∷ MutSlice (named 2) κ' u16 ∷ []) (given' l δ r) (in_next β l)) ∷ []) ∵ join ! $ frame ! $ done !
 
-  goes-next : (β l : ℕ) (δ : GName) (r : Bitstream) → ent 𝓤 (⋆ 𝓛 (‵ (lent β l δ r) ∷ ‵ (flft (short β) (PosShare.left q)) ∷ ‵ (flft κ (PosShare.right q)) ∷ raw Waits ∷ [])) (sep 𝓤 ((Next 𝓛 at_mem run).pre (to-next β l δ r)) (sem 𝓛 Own))
-  goes-next β l δ r =
+  goes_next : (β l : ℕ) (δ : GName) (r : Bitstream) → ent 𝓤 (⋆ 𝓛 (‵ (lent β l δ r) ∷ ‵ (flft (short β) (PosShare.left q)) ∷ ‵ (flft κ (PosShare.right q)) ∷ raw Waits ∷ [])) (sep 𝓤 ((Next 𝓛 at_mem run).pre (to_next β l δ r)) (sem 𝓛 Own))
+  goes_next β l δ r =
       qed 𝓛 (‵ (lent β l δ r) ∷ ‵ (flft (short β) (PosShare.left q)) ∷ ‵ (flft κ (PosShare.right q)) ∷ (‵ Own ⊛ (‵ Rows ⊛ (‵ (flft κ' q') ⊛ ‵ ftrue))) ∷ []) ∵
       move ! (3 ∷ []) $ split ! $ move ! (1 ∷ []) $ split ! $
       -- [what the rows own; their token; what s owns; what is lent; its token; that of the bytes]
       nothing ! $ move ! (1 ∷ 0 ∷ []) $ fjoin ! $ num64 ! k k-fits $ move ! (3 ∷ 0 ∷ []) $ fjoin ! $ move ! (4 ∷ 1 ∷ []) $ join ! $ move ! (3 ∷ 0 ∷ []) $ join ! $
       -- [the tokens; what `parse` is passed; what s owns]
-      use2 𝓛 (raw ((Next 𝓛 at_mem run).pre (to-next β l δ r))) (asks-next β l δ r) $ frame ! $ done !
+      use2 𝓛 (raw ((Next 𝓛 at_mem run).pre (to_next β l δ r))) (asks_next β l δ r) $ frame ! $ done !
 
   abbrev Said : Bitstream → Reading → List ℕ → Bitstream → Type 0
-  Said r t zs h = (t ≡ (readHeader (now r.bytes) r.at k ys).answer) × (zs ≡ (readHeader (now r.bytes) r.at k ys).rows) × (h ≡ inHand r.bytes (bit_of r.at t))
+  Said r t zs h = (t ≡ (read_header (now r.bytes) r.at k ys).answer) × (zs ≡ (read_header (now r.bytes) r.at k ys).rows) × (h ≡ in_hand r.bytes (bit_of r.at t))
 
   abbrev Found : Bitstream → Reading → List ℕ → Type 0
-  Found r t zs = (t ≡ (readHeader (now r.bytes) r.at k ys).answer) × (zs ≡ (readHeader (now r.bytes) r.at k ys).rows)
+  Found r t zs = (t ≡ (read_header (now r.bytes) r.at k ys).answer) × (zs ≡ (read_header (now r.bytes) r.at k ys).rows)
 
-  exits : (t : Reading) (u : Val) (zs : List ℕ) → Found (inHand s p) t zs → length zs ≡ length ys
+  exits : (t : Reading) (u : Val) (zs : List ℕ) → Found (in_hand s p) t zs → length zs ≡ length ys
       → ent 𝓤 (⋆ 𝓛 (‵ ((S.the_row).own_val t (u ∷ [])) ∷ (‵ (flft κ q) ⊛ ‵ (flft κ' q') ⊛ ‵ ftrue) ∷ ‵ (finally u16 γ zs) ∷ ‵ Own ∷ [])) (Post u)
   exits t u zs e l =
       qed 𝓛 (‵ ((S.the_row).own_val t (u ∷ [])) ∷ (‵ (flft κ q) ⊛ ‵ (flft κ' q') ⊛ ‵ ftrue) ∷ ‵ (finally u16 γ zs) ∷ ‵ Own ∷ []) ∵
@@ -167,20 +167,20 @@ module _ {M : Type 1} {𝓤 : Ura M} (𝓛 : Logic 𝓤) (at_mem : Memory → SP
       move ! (1 ∷ []) $ frame ! $ nothing ! $ move ! (2 ∷ 0 ∷ []) $ fjoin ! $ num64 ! k k-fits $ num64 ! p p-fits $ move ! (2 ∷ 0 ∷ []) $ fjoin ! $ frame ! $ done !
 
   module _ (C : Calls 𝓤 H) (Λ : Loops 𝓤 H) (fm : FmC 𝓤 H 𝓛.laws C) (known-new : Triple 𝓤 (C #new) (New 𝓛 at_mem run)) (known_next : Triple 𝓤 (C #next) (Next 𝓛 at_mem run)) where
-    walk : Is (ShrSlice (named 0) κ u8) s (bytes-val s ∷ []) → Room u16 (length ys) → ent 𝓤 (on_entry 𝓛 self.signature κs (q, (q', tt)) a vals) (WpFn 𝓤 H C Λ code.function (bytes-val s ∷ vint w64 p ∷ vint w64 k ∷ w ∷ []) Post)
+    walk : Is (ShrSlice (named 0) κ u8) s (bytes_val s ∷ []) → Room u16 (length ys) → ent 𝓤 (on_entry 𝓛 self.signature κs (q, (q', tt)) a vals) (WpFn 𝓤 H C Λ code.function (bytes_val s ∷ vint w64 p ∷ vint w64 k ∷ w ∷ []) Post)
     walk is-s room =
-        qed 𝓛 (raw (on_entry 𝓛 self.signature κs (q, (q', tt)) a vals) ∷ []) ∵ enter ! C Λ code.function (bytes-val s ∷ vint w64 p ∷ vint w64 k ∷ w ∷ []) _ $
+        qed 𝓛 (raw (on_entry 𝓛 self.signature κs (q, (q', tt)) a vals) ∷ []) ∵ enter ! C Λ code.function (bytes_val s ∷ vint w64 p ∷ vint w64 k ∷ w ∷ []) _ $
         alloc1 ! (λ l₀. alloc1 ! (λ l₁. alloc1 ! (λ l₂. alloc1 ! (λ l₃. alloc1 ! (λ l₄. alloc1 ! (λ l₅. alloc1 ! (λ l₆. alloc1 ! (λ l₇. alloc1 ! (λ l₈. alloc1 ! (λ l₉. alloc0 ! $ params1 ! $
-        pass1 ! (init ! 16 refl ((shr_slice_Lawful 𝓛 (named 0) κ u8).typed s (bytes-val s ∷ []) is-s).0) $ pass1 ! (init ! 14 refl (tt, record { fits = p-fits })) $ pass1 ! (init ! 12 refl (tt, record { fits = k-fits })) $ pass1 ! (init ! 10 refl (tt, (tt, (record { fits = room.0 }, tt)))) $ pass0 ! $
+        pass1 ! (init ! 16 refl ((shr_slice_Lawful 𝓛 (named 0) κ u8).typed s (bytes_val s ∷ []) is-s).0) $ pass1 ! (init ! 14 refl (tt, record { fits = p-fits })) $ pass1 ! (init ! 12 refl (tt, record { fits = k-fits })) $ pass1 ! (init ! 10 refl (tt, (tt, (record { fits = room.0 }, tt)))) $ pass0 ! $
         -- [room for _9; …; room for _5; …; _4; …; _3; …; _2; …; _1; …; room for _0; …; all that is owned]
-        move ! (20 ∷ []) $ use1 𝓛 (raw ((New 𝓛 at_mem run).pre to-new) ⊛ raw Waits) goes-new $ split ! $
-        calls_at ! fm (New 𝓛 at_mem run) known-new to-new (and_then ! (load ! (from ! (stop !)) (look ! 18 refl)) (and_then ! (load ! (from ! (stop !)) (look ! 16 refl)) (no_more !))) (λ u.
+        move ! (20 ∷ []) $ use1 𝓛 (raw ((New 𝓛 at_mem run).pre to_new) ⊛ raw Waits) goes_new $ split ! $
+        calls_at ! fm (New 𝓛 at_mem run) known-new to_new (and_then ! (load ! (from ! (stop !)) (look ! 18 refl)) (and_then ! (load ! (from ! (stop !)) (look ! 16 refl)) (no_more !))) (λ u.
         use1 𝓛 (later (some (λ (r : Bitstream). ((‵ (flft κ q) ⊛ ‵ ftrue) ⊛ ‵ ((Held (α κ)).own r (u ∷ []))) ⊛ raw (ensured 𝓛 new.ended (new.clauses 𝓛 at_mem run) (κ, tt) (s, (p, tt)) tt r)))) (id⊢ 𝓤 _) $ await ! tt $ pick ! (λ r.
-        split ! $ move ! (1 ∷ []) $ use1 𝓛 (raw (fact 𝓤 (r ≡ inHand s p))) (new-said r) $ heard ! (r ≡ inHand s p) (λ e. split ! $ move ! (1 ∷ []) $
+        split ! $ move ! (1 ∷ []) $ use1 𝓛 (raw (fact 𝓤 (r ≡ in_hand s p))) (new_said r) $ heard ! (r ≡ in_hand s p) (λ e. split ! $ move ! (1 ∷ []) $
         -- [what the struct owns; the token; what waits; room for _9; …]
         peeks ! (Held (α κ)) (Is (Held (α κ))) (shows 𝓛 (Held (α κ))) r (u ∷ []) (λ is.
-        land ! (from ! (stop !)) (init ! 9 refl (held-typed' 𝓛 (record { mir = erased; lft = κ }) r u is)) $
-        assigns ! (of_opd ! (load ! (from ! (stop !)) (look ! 9 refl))) (from ! (stop !)) (init ! 11 refl (held-typed' 𝓛 (record { mir = erased; lft = κ }) r u is)) $
+        land ! (from ! (stop !)) (init ! 9 refl (held_typed' 𝓛 (record { mir = erased; lft = κ }) r u is)) $
+        assigns ! (of_opd ! (load ! (from ! (stop !)) (look ! 9 refl))) (from ! (stop !)) (init ! 11 refl (held_typed' 𝓛 (record { mir = erased; lft = κ }) r u is)) $
         assigns ! (addr ! (from ! (stop !))) (from ! (stop !)) (init ! 7 refl (tt, tt)) $
         assigns ! (addr ! (from ! (fld ! refl (hop ! (look_in ! 13 (sub ! 0 refl (whole !))) (stop !))))) (from ! (stop !)) (init ! 5 refl (tt, tt)) $
         assigns ! (agg ! (and_then ! (load ! (from ! (stop !)) (look ! 5 refl)) (and_then ! (load ! (from ! (fld ! refl (stop !))) (look_in ! 13 (sub ! 1 refl (whole !)))) (no_more !)))) (from ! (stop !)) (init ! 3 refl (tt, (tt, (record { fits = room.0 }, tt)))) $
@@ -190,9 +190,9 @@ module _ {M : Type 1} {𝓤 : Ura M} (𝓛 : Logic 𝓤) (at_mem : Memory → SP
         use2 𝓛 (‵ (flft (short β) (PosShare.left q)) ⊛ raw (Rest 𝓛 β (PosShare.left q))) (within_token 𝓛 β κ (PosShare.left q)) $ split ! $
         -- [the token of the loan; the way back; half of κ's token; true; _5 in memory; what waits; _9; …]
         move ! (4 ∷ []) $ use1 𝓛 (later (some (λ (δ : GName). ‵ (lent β l₅ δ r) ⊛ ‵ (flent (short β) (Body (mem (Held (α κ))) l₅ 0 δ))))) (lends_ref 𝓛 (Held (α κ)) (named 0) (short β) r l₅ 0) $ await ! tt $ pick ! (λ δ. split ! $
-        move ! (4 ∷ 6 ∷ []) $ join ! $ move ! (1 ∷ 3 ∷ 0 ∷ []) $ use3 𝓛 (raw ((Next 𝓛 at_mem run).pre (to-next β l₅ δ r)) ⊛ ‵ Own) (goes-next β l₅ δ r) $ split ! $
+        move ! (4 ∷ 6 ∷ []) $ join ! $ move ! (1 ∷ 3 ∷ 0 ∷ []) $ use3 𝓛 (raw ((Next 𝓛 at_mem run).pre (to_next β l₅ δ r)) ⊛ ‵ Own) (goes_next β l₅ δ r) $ split ! $
         -- [what `parse` asks; what s owns; the lender's part; the way back; true; _9; …]
-        calls_at ! fm (Next 𝓛 at_mem run) known_next (to-next β l₅ δ r) (and_then ! (load ! (from ! (stop !)) (look ! 9 refl)) (and_then ! (load ! (from ! (stop !)) (look ! 16 refl)) (and_then ! (load ! (from ! (stop !)) (look ! 5 refl)) (no_more !)))) (λ u'.
+        calls_at ! fm (Next 𝓛 at_mem run) known_next (to_next β l₅ δ r) (and_then ! (load ! (from ! (stop !)) (look ! 9 refl)) (and_then ! (load ! (from ! (stop !)) (look ! 16 refl)) (and_then ! (load ! (from ! (stop !)) (look ! 5 refl)) (no_more !)))) (λ u'.
         use1 𝓛 (later (some (λ (t : Reading). ((‵ (flft (short β) (PosShare.left q)) ⊛ ‵ (flft κ (PosShare.right q)) ⊛ ‵ (flft κ' q') ⊛ ‵ ftrue) ⊛ ‵ ((S.the_row).own_val t (u' ∷ []))) ⊛ raw (ensured 𝓛 next.ended (next.clauses 𝓛 at_mem run) (at_next β) (given' l₅ δ r) tt t)))) (id⊢ 𝓤 _) $ await ! tt $ pick ! (λ t.
         -- what `parse` ensures, at some last struct and last list
         split ! $ move ! (1 ∷ []) $ use1 𝓛 (some (λ (zs : Bitstream × (Unit {0} × (List ℕ × Unit {0}))). ‵ (lasts next.ended (at_next β) (given' l₅ δ r) zs) ⊛ raw (fact 𝓤 (Said r t zs.1.1.0 zs.0)))) (id⊢ 𝓤 _) $ pick ! (λ zs.
@@ -227,9 +227,9 @@ module _ {M : Type 1} {𝓤 : Ura M} (𝓛 : Logic 𝓤) (mem : Memory → SProp
       (Goes-none_slice 𝓛 2 (0 ∷ []) tt (plain (λ _. u8)) yes, (Goes-none 𝓛 2 (λ _. u64) yes (λ κs x f. refl), (Goes-none 𝓛 2 (λ _. usize) yes (λ κs x f. refl), (Goes-gave_slice 𝓛 2 1 tt (plain (λ _. u16)), tt))))
       (self.clauses 𝓛 mem run) (WpFn 𝓤 H 𝓣.C 𝓣.Λ code.function) (WpFn-mono 𝓤 H 𝓛.laws 𝓣 code.function) (walks 𝓣.C 𝓣.Λ (fm_of 𝓤 H 𝓛.laws 𝓣) know-new know-next)
 
-pub read-header-spec : {M : Type 1} → stated.statement M
+pub read_header_spec : {M : Type 1} → stated.statement M
 unfolding code.routine tables_of
-read-header-spec 𝓤 𝓛 𝓜 𝓡 =
+read_header_spec 𝓤 𝓛 𝓜 𝓡 =
     entered 𝓤 𝓛.H (triple_of 𝓛 self.signature (self.spec 𝓛 𝓜.mem 𝓡.run))
     (tables 𝓤 𝓛.H 𝓜 𝓡 code.env).C (tables 𝓤 𝓛.H 𝓜 𝓡 code.env).Λ #self code.function (code.unfolded 𝓤 𝓛.H 𝓜 𝓡)
     (meets 𝓛 𝓜.mem 𝓡.run (tables_of 𝓤 𝓛.H 𝓜 (tables 𝓤 𝓛.H 𝓜 𝓡 code.env))

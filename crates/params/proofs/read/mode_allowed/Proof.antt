@@ -27,5 +27,5 @@ returns-5 c =
     let a = c.before.before.before.before.args in
     simp (le-leb 1 a.mode (search rules), le-leb a.mode 5 (search rules), lt-leb a.kind 3 (search rules), ne_eqb a.kind 9 (search rules))
 
-pub mode-allowed-spec : {M : Type 1} → statement M
-mode-allowed-spec = tie.close (tie.spec returns returns-2 returns-3 returns-4 returns-5)
+pub mode_allowed_spec : {M : Type 1} → statement M
+mode_allowed_spec = tie.close (tie.spec returns returns-2 returns-3 returns-4 returns-5)

@@ -45,7 +45,7 @@ loop-again c = search rules
 returns : tie.Need-returns invariant-loop decreases-loop
 returns c = search rules
 
-pub touched-rows-spec : {M : Type 1} → statement M
-touched-rows-spec =
+pub touched_rows_spec : {M : Type 1} → statement M
+touched_rows_spec =
     tie.close
     (tie.spec invariant-loop decreases-loop loop-holds mul_at add-end mul-touched-row sub-touched-row part-touched-row-start part-touched-row-end touched-row-requires add-kind loop-less loop-again returns)

@@ -29,5 +29,5 @@ cut-call-requires c κs = tt
 returns : tie.Need-returns
 returns c = tt
 
-pub with-arenas-spec : {M : Type 1} → statement M
-with-arenas-spec = tie.close (tie.spec slice-aggregate-first-weights field-requires first-weights-requires slice-aggregate-first-weights-2 field-requires-2 first-weights-requires-2 cut-call-requires returns)
+pub with_arenas_spec : {M : Type 1} → statement M
+with_arenas_spec = tie.close (tie.spec slice-aggregate-first-weights field-requires first-weights-requires slice-aggregate-first-weights-2 field-requires-2 first-weights-requires-2 cut-call-requires returns)

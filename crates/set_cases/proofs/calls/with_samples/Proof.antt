@@ -13,5 +13,5 @@ filled-call-requires c κs = tt
 returns : tie.Need-returns
 returns c = tt
 
-pub with-samples-spec : {M : Type 1} → statement M
-with-samples-spec = tie.close (tie.spec slice-aggregate-filled-call filled-call-requires returns)
+pub with_samples_spec : {M : Type 1} → statement M
+with_samples_spec = tie.close (tie.spec slice-aggregate-filled-call filled-call-requires returns)

@@ -45,8 +45,8 @@ same_length c = search rules
 returns : tie.Need-returns invariant-loop decreases-loop
 returns c = search rules
 
-pub put-samples-spec : {M : Type 1} → statement M
-put-samples-spec =
+pub put_samples_spec : {M : Type 1} → statement M
+put_samples_spec =
     tie.close
     (tie.spec
     invariant-loop

@@ -15,9 +15,9 @@ loop-holds c = search rules
 mul-nearest-i32-to-f32 : tie.Need-overflow-mul-nearest-i32-to-f32 invariant-loop decreases-loop
 mul-nearest-i32-to-f32 c = search rules
 
-shared-slice-copy-out-nearest-i32-to-f32 :
+shared_slice_copy_out_nearest_i32_to_f32 :
     tie.Need-shared-slice-copy-out-nearest-i32-to-f32 invariant-loop decreases-loop
-shared-slice-copy-out-nearest-i32-to-f32 c = search rules
+shared_slice_copy_out_nearest_i32_to_f32 c = search rules
 
 nearest-i32-to-f32-requires : tie.Need-nearest-i32-to-f32-requires invariant-loop decreases-loop
 nearest-i32-to-f32-requires c κs = search rules
@@ -37,15 +37,15 @@ loop-again c = search rules
 returns : tie.Need-returns invariant-loop decreases-loop
 returns c = search rules
 
-pub show-values-spec : {M : Type 1} → statement M
-show-values-spec =
+pub show_values_spec : {M : Type 1} → statement M
+show_values_spec =
     tie.close
     (tie.spec
     invariant-loop
     decreases-loop
     loop-holds
     mul-nearest-i32-to-f32
-    shared-slice-copy-out-nearest-i32-to-f32
+    shared_slice_copy_out_nearest_i32_to_f32
     nearest-i32-to-f32-requires
     item-requires
     add-i

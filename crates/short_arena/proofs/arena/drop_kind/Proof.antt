@@ -6,13 +6,13 @@ use borrow.Author.Rules.{rules}
 use lib.ListN.{length}
 use lib.Ieee.{of_bits, binary32}
 use Rattle.transform.specs.Kinds.{places_of}
-use Rattle.slices.specs.Slices.{closedAt}
-use Rattle.slices.proofs.Laws.{close-fits}
+use Rattle.slices.specs.Slices.{closed_at}
+use Rattle.slices.proofs.Laws.{close_fits}
 use Rattle.short_arena.specs.declared.arena.Answer.TheVariants.{Part}
 use Rattle.short_arena.specs.Held.{held_of, start_in}
-use Rattle.short_arena.specs.Short.{findAnswer}
-use Rattle.short_arena.proofs.Lending.{seventeen, held-count}
-use Rattle.short_arena.proofs.Answers.{Found, find-says, drop-refused, drop-done, drop_keeps, drop-closes}
+use Rattle.short_arena.specs.Short.{find_answer}
+use Rattle.short_arena.proofs.Lending.{seventeen, held_count}
+use Rattle.short_arena.proofs.Answers.{Found, find_says, drop_refused, drop_done, drop_keeps, drop_closes}
 use Rattle.short_arena.proofs.arena.drop_kind.Statement.{statement}
 use Rattle.short_arena.proofs.arena.drop_kind.Tie as tie
 
@@ -27,7 +27,7 @@ returns c =
     let a = c.before.before.before.args in
     let l = a.arena.now in
     let e = c.before.find.ensures in
-    (drop-refused (length l) a.state a.kind _ e c.match.keys2, drop_keeps l a.state a.kind _ e c.match.keys2)
+    (drop_refused (length l) a.state a.kind _ e c.match.keys2, drop_keeps l a.state a.kind _ e c.match.keys2)
 
 -- ---- where the kind is held
 abbrev Named : Type 0
@@ -42,17 +42,17 @@ first c = c.found.given.0.0
 abbrev many : Named → ℕ
 many c = c.found.given.0.1.0
 
-said : (c : Named) → Part (first c) (many c) ≡ findAnswer (length (start c).args.arena.now) (start c).args.state (start c).args.kind
+said : (c : Named) → Part (first c) (many c) ≡ find_answer (length (start c).args.arena.now) (start c).args.state (start c).args.kind
 said c = sym c.found.given.1 ∙ c.before.before.find.ensures
 
 found : (c : Named) → Found (length (start c).args.arena.now) (start c).args.state (start c).args.kind (first c) (many c)
-found c = find-says _ _ _ _ _ (said c)
+found c = find_says _ _ _ _ _ (said c)
 
 full : (c : Named) → length (start c).args.state.kinds ≡ 17
 full c = seventeen (start c).args.state.kinds (start c).well-formed.1.0.1.1.1.0.1.0.1
 
 counted : (c : Named) → length (held_of (start c).args.state) ≡ (start c).args.state.count
-counted c = held-count (start c).args.state (full c) (found c).right.count
+counted c = held_count (start c).args.state (full c) (found c).right.count
 
 array-share-prefix-kinds : tie.Need-array-share-prefix-kinds
 array-share-prefix-kinds c = let d = c.before.before in omega (arith, full d, (found d).right.count)
@@ -80,17 +80,17 @@ returns-2 c =
     let l = a.arena.now in
     let g = found d in
     let z = of_bits binary32 0 in (
-      drop-done (length l) a.state a.kind (first d) (many d) _ (said d) c.without-kind.ensures,
+      drop_done (length l) a.state a.kind (first d) (many d) _ (said d) c.without-kind.ensures,
       c.before.before.before.close.ensures
-          ∙ close-fits l (first d) (many d) p.result (omega (arith, g.ends, p.ensures)) (omega (arith, g.right.room, p.ensures))
-          ∙ ap (λ (i : ℕ). closedAt z i (many d) p.result l) g.first
-          ∙ ap (λ (i : ℕ). closedAt z (start_in (held_of a.state) a.kind) i p.result l) g.places
-          ∙ ap (λ (i : ℕ). closedAt z (start_in (held_of a.state) a.kind) (places_of a.kind) i l) p.ensures
-          ∙ drop-closes l a.state a.kind (first d) (many d) (said d),
+          ∙ close_fits l (first d) (many d) p.result (omega (arith, g.ends, p.ensures)) (omega (arith, g.right.room, p.ensures))
+          ∙ ap (λ (i : ℕ). closed_at z i (many d) p.result l) g.first
+          ∙ ap (λ (i : ℕ). closed_at z (start_in (held_of a.state) a.kind) i p.result l) g.places
+          ∙ ap (λ (i : ℕ). closed_at z (start_in (held_of a.state) a.kind) (places_of a.kind) i l) p.ensures
+          ∙ drop_closes l a.state a.kind (first d) (many d) (said d),
     )
 
-pub drop-kind-spec : {M : Type 1} → statement M
-drop-kind-spec =
+pub drop_kind_spec : {M : Type 1} → statement M
+drop_kind_spec =
     tie.close
     (tie.spec
     find-requires

@@ -7,8 +7,8 @@ use lib.ListN.{length, take, drop}
 use Rattle.transform.proofs.PartLaws.{cut_at}
 use Rattle.short_arena.specs.declared.arena.Answer.TheVariants.{Part}
 use Rattle.short_arena.specs.Held.{held_of, start_in}
-use Rattle.short_arena.specs.Short.{findAnswer}
-use Rattle.short_arena.proofs.Answers.{Found, find-says, shows-none, shows-part}
+use Rattle.short_arena.specs.Short.{find_answer}
+use Rattle.short_arena.proofs.Answers.{Found, find_says, shows_none, shows_part}
 use Rattle.short_arena.proofs.arena.lookup.Statement.{statement}
 use Rattle.short_arena.proofs.arena.lookup.Tie as tie
 
@@ -24,7 +24,7 @@ slice-aggregate-result c = search rules
 returns : tie.Need-returns
 returns c =
     let a = c.before.before.before.before.args in
-    shows-none a.arena.now a.state a.kind _ c.before.before.find.ensures c.before.match.keys2
+    shows_none a.arena.now a.state a.kind _ c.before.before.find.ensures c.before.match.keys2
 
 -- ---- where the kind is held
 abbrev Named : Type 0
@@ -39,11 +39,11 @@ first c = c.first.given.0.0
 abbrev many : Named → ℕ
 many c = c.first.given.0.1.0
 
-said : (c : Named) → Part (first c) (many c) ≡ findAnswer (length (start c).args.arena.now) (start c).args.state (start c).args.kind
+said : (c : Named) → Part (first c) (many c) ≡ find_answer (length (start c).args.arena.now) (start c).args.state (start c).args.kind
 said c = sym c.first.given.1 ∙ c.before.before.find.ensures
 
 found : (c : Named) → Found (length (start c).args.arena.now) (start c).args.state (start c).args.kind (first c) (many c)
-found c = find-says _ _ _ _ _ (said c)
+found c = find_says _ _ _ _ _ (said c)
 
 add-end : tie.Need-overflow-add-end
 add-end c = let g = found c.before in omega (arith, g.ends, g.right.room, g.right.arena)
@@ -69,10 +69,10 @@ returns-2 c =
     cut_at (first d) (many d) l
     ∙ ap (λ (m : ℕ). take (many d) (drop m l)) g.first
     ∙ ap (λ (m : ℕ). take m (drop (start_in (held_of a.state) a.kind) l)) g.places
-    ∙ shows-part l a.state a.kind (first d) (many d) (said d)
+    ∙ shows_part l a.state a.kind (first d) (many d) (said d)
 
-pub lookup-spec : {M : Type 1} → statement M
-lookup-spec =
+pub lookup_spec : {M : Type 1} → statement M
+lookup_spec =
     tie.close
     (tie.spec
     find-requires

@@ -6,7 +6,7 @@ use native.Mathlib.Omega.{arith}
 use borrow.Author.Rules.{rules}
 use lib.ListN.{length, drop}
 use Rattle.short_arena.specs.Held.{single}
-use Rattle.short_arena.proofs.Turns.{single-far, single-on, single-none}
+use Rattle.short_arena.proofs.Turns.{single_far, single_on, single_none}
 use Rattle.short_arena.proofs.held.are_single.Statement.{statement}
 use Rattle.short_arena.proofs.held.are_single.Tie as tie
 
@@ -29,7 +29,7 @@ returns : tie.Need-returns invariant-loop decreases-loop
 returns c =
     let a = c.before.before.before.before.before.args in
     let i = c.before.before.before.loop.i in
-    single-far a.held.now i c.before.before.loop-test.true c.if1.true ∙ c.before.before.before.loop.invariant
+    single_far a.held.now i c.before.before.loop-test.true c.if1.true ∙ c.before.before.before.loop.invariant
 
 add-is-held : tie.Need-overflow-add-is-held invariant-loop decreases-loop
 add-is-held c = omega arith
@@ -48,7 +48,7 @@ returns-2 c =
     let d = c.before.before.before in
     let a = d.before.before.before.before.before.args in
     let i = d.before.before.before.loop.i in
-    sym (single-on a.held.now i d.before.before.loop-test.true true d.if1.false (sym c.before.is_held_lem.ensures ∙ c.if2.true)) ∙ d.before.before.before.loop.invariant
+    sym (single_on a.held.now i d.before.before.loop-test.true true d.if1.false (sym c.before.is_held_lem.ensures ∙ c.if2.true)) ∙ d.before.before.before.loop.invariant
 
 add-i : tie.Need-overflow-add-i invariant-loop decreases-loop
 add-i c = omega arith
@@ -61,15 +61,15 @@ loop-again c =
     let d = c.before.before.before in
     let a = d.before.before.before.before.before.args in
     let i = d.before.before.before.loop.i in
-    sym (single-on a.held.now i d.before.before.loop-test.true false d.if1.false (sym c.before.is_held_lem.ensures ∙ c.if2.false)) ∙ d.before.before.before.loop.invariant
+    sym (single_on a.held.now i d.before.before.loop-test.true false d.if1.false (sym c.before.is_held_lem.ensures ∙ c.if2.false)) ∙ d.before.before.before.loop.invariant
 
 returns-3 : tie.Need-returns-3 invariant-loop decreases-loop
 returns-3 c =
     let a = c.before.before.before.args in
-    single-none a.held.now c.before.loop.i c.loop-test.false ∙ c.before.loop.invariant
+    single_none a.held.now c.before.loop.i c.loop-test.false ∙ c.before.loop.invariant
 
-pub are-single-spec : {M : Type 1} → statement M
-are-single-spec =
+pub are_single_spec : {M : Type 1} → statement M
+are_single_spec =
     tie.close
     (tie.spec
     invariant-loop

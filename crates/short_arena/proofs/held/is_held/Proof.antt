@@ -4,7 +4,7 @@ use Prim.Native.Nat.{◌-◌}
 use native.Mathlib.Omega.{arith}
 use lib.ListN.{length, drop}
 use Rattle.short_arena.specs.Held.{is_held}
-use Rattle.short_arena.proofs.Turns.{held-here, held_next, held_none}
+use Rattle.short_arena.proofs.Turns.{held_here, held_next, held_none}
 use Rattle.short_arena.proofs.held.is_held.Statement.{statement}
 use Rattle.short_arena.proofs.held.is_held.Tie as tie
 
@@ -27,7 +27,7 @@ returns : tie.Need-returns invariant-loop decreases-loop
 returns c =
     let a = c.before.before.before.before.args in
     let i = c.before.before.before.loop.i in
-    held-here a.held.now i c.before.before.loop-test.true a.kind c.if1.true ∙ c.before.before.before.loop.invariant
+    held_here a.held.now i c.before.before.loop-test.true a.kind c.if1.true ∙ c.before.before.before.loop.invariant
 
 add-i : tie.Need-overflow-add-i invariant-loop decreases-loop
 add-i c = omega arith
@@ -46,8 +46,8 @@ returns-2 c =
     let a = c.before.before.args in
     held_none a.held.now c.before.loop.i c.loop-test.false a.kind ∙ c.before.loop.invariant
 
-pub is-held-spec : {M : Type 1} → statement M
-is-held-spec =
+pub is_held_spec : {M : Type 1} → statement M
+is_held_spec =
     tie.close
     (tie.spec
     invariant-loop

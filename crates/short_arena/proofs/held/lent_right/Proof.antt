@@ -7,11 +7,11 @@ use borrow.Author.Rules.{rules}
 use lib.Dec.{leb}
 use lib.ListN.{length, drop}
 use Rattle.transform.proofs.Chain.{here, next}
-use Rattle.short_arena.specs.Held.{held_of, single, placesIn}
-use Rattle.transform.specs.Zeros.{allZero}
-use Rattle.short_arena.specs.Short.{lentRight}
-use Rattle.short_arena.proofs.States.{rest-is}
-use Rattle.short_arena.proofs.Lending.{seventeen, held-count, no_kind, no-arena, no-count, by-kinds}
+use Rattle.short_arena.specs.Held.{held_of, single, places_in}
+use Rattle.transform.specs.Zeros.{all_zero}
+use Rattle.short_arena.specs.Short.{lent_right}
+use Rattle.short_arena.proofs.States.{rest_is}
+use Rattle.short_arena.proofs.Lending.{seventeen, held_count, no_kind, no_arena, no_count, by_kinds}
 use Rattle.short_arena.proofs.held.lent_right.Statement.{statement}
 use Rattle.short_arena.proofs.held.lent_right.Tie as tie
 
@@ -23,12 +23,12 @@ returns c =
 returns-2 : tie.Need-returns-2
 returns-2 c =
     let a = c.before.before.args in
-    no-arena a.n a.state a.kind (omega (arith, c.before.if1.false)) c.if2.true
+    no_arena a.n a.state a.kind (omega (arith, c.before.if1.false)) c.if2.true
 
 returns-3 : tie.Need-returns-3
 returns-3 c =
     let a = c.before.before.before.before.args in
-    no-count a.n a.state a.kind (omega (arith, c.before.before.before.if1.false)) c.before.before.if2.false c.if3.true
+    no_count a.n a.state a.kind (omega (arith, c.before.before.before.if1.false)) c.before.before.if2.false c.if3.true
 
 -- ---- where the count is at most 17
 abbrev start : tie.Else3 → tie.Start
@@ -39,15 +39,15 @@ full c = seventeen (start c).args.state.kinds (start c).well-formed.1.0.1.1.1.0.
 
 -- what is left is the three tests of the kinds
 by_three : (c : tie.Else3) (r : Bool)
-    → r ≡ (single (held_of (start c).args.state) && (leb (placesIn (held_of (start c).args.state)) (start c).args.n && allZero (drop (start c).args.state.count (start c).args.state.kinds)))
-    → r ≡ lentRight (start c).args.n (start c).args.state (start c).args.kind
-by_three c r = by-kinds (start c).args.n (start c).args.state (start c).args.kind (omega (arith, c.before.before.before.if1.false)) c.before.before.if2.false c.if3.false r
+    → r ≡ (single (held_of (start c).args.state) && (leb (places_in (held_of (start c).args.state)) (start c).args.n && all_zero (drop (start c).args.state.count (start c).args.state.kinds)))
+    → r ≡ lent_right (start c).args.n (start c).args.state (start c).args.kind
+by_three c r = by_kinds (start c).args.n (start c).args.state (start c).args.kind (omega (arith, c.before.before.before.if1.false)) c.before.before.if2.false c.if3.false r
 
 array-share-prefix-kinds : tie.Need-array-share-prefix-kinds
 array-share-prefix-kinds c = omega (arith, full c)
 
 slice-aggregate-held : tie.Need-slice-aggregate-held
-slice-aggregate-held c = sym (held-count (start c.before).args.state (full c.before) c.before.if3.false)
+slice-aggregate-held c = sym (held_count (start c.before).args.state (full c.before) c.before.if3.false)
 
 are-single-requires : tie.Need-are-single-requires
 are-single-requires c κs = search rules
@@ -58,14 +58,14 @@ returns-4 c = by_three c.before.before.before false (here _ _ (sym c.before.are-
 places-in-requires : tie.Need-places-in-requires
 places-in-requires c κs =
     let d = c.before.before.before in
-    omega (arith, held-count (start d).args.state (full d) d.if3.false, d.if3.false)
+    omega (arith, held_count (start d).args.state (full d) d.if3.false, d.if3.false)
 
 returns-5 : tie.Need-returns-5
 returns-5 c =
     let d = c.before.before.before.before.before in
     by_three d false
     (next _ _ false (sym c.before.before.before.are-single.ensures ∙ not-false _ c.before.before.if4.false)
-    (here _ _ (lt-leb (placesIn (held_of (start d).args.state)) (start d).args.n (omega (arith, c.before.places-in.ensures, c.if5.true)))))
+    (here _ _ (lt-leb (places_in (held_of (start d).args.state)) (start d).args.n (omega (arith, c.before.places-in.ensures, c.if5.true)))))
 
 mul-all-zero : tie.Need-overflow-mul-all-zero
 mul-all-zero c = search rules
@@ -86,11 +86,11 @@ returns-6 c =
     let e = c.before.before.before in
     by_three d _
     (next _ _ _ (sym e.before.before.before.are-single.ensures ∙ not-false _ e.before.before.if4.false)
-    (next _ _ _ (le-leb (placesIn (held_of s)) (start d).args.n (omega (arith, e.before.places-in.ensures, e.if5.false)))
-    (c.all-zero.ensures ∙ ap allZero (rest-is s.count s.kinds (full d)))))
+    (next _ _ _ (le-leb (places_in (held_of s)) (start d).args.n (omega (arith, e.before.places-in.ensures, e.if5.false)))
+    (c.all-zero.ensures ∙ ap all_zero (rest_is s.count s.kinds (full d)))))
 
-pub lent-right-spec : {M : Type 1} → statement M
-lent-right-spec =
+pub lent_right_spec : {M : Type 1} → statement M
+lent_right_spec =
     tie.close
     (tie.spec
     returns

@@ -6,8 +6,8 @@ use native.Mathlib.Nat.{zero-add}
 use borrow.Author.Rules.{rules}
 use lib.ListN.{length, get_or, drop}
 use Rattle.short_arena.specs.Held.{start_in}
-use Rattle.transform.proofs.Laws.{places-le}
-use Rattle.short_arena.proofs.Turns.{start-here, start-next, start_none}
+use Rattle.transform.proofs.Laws.{places_le}
+use Rattle.short_arena.proofs.Turns.{start_here, start_next, start_none}
 use Rattle.short_arena.proofs.held.start_in.Statement.{statement}
 use Rattle.short_arena.proofs.held.start_in.Tie as tie
 
@@ -30,7 +30,7 @@ returns : tie.Need-returns invariant-loop decreases-loop
 returns c =
     let d = c.before.before.before in
     let a = d.before.before.args in
-    let e = start-here a.held.now d.loop.i c.before.before.loop-test.true a.kind c.if1.true in
+    let e = start_here a.held.now d.loop.i c.before.before.loop-test.true a.kind c.if1.true in
     omega arith
 
 mul-t6 : tie.Need-overflow-mul-t6 invariant-loop decreases-loop
@@ -45,7 +45,7 @@ arena-length-requires c κs = search rules
 add_at : tie.Need-overflow-add-at invariant-loop decreases-loop
 add_at c =
     let d = c.before.before.before.before.before in
-    let h = places-le (get_or d.before.before.args.held.now d.loop.i 0) in
+    let h = places_le (get_or d.before.before.args.held.now d.loop.i 0) in
     let e = c.arena-length.ensures in
     omega arith
 
@@ -59,9 +59,9 @@ loop-again : tie.Need-loop-preserved invariant-loop decreases-loop
 loop-again c =
     let d = c.before.before.before.before.before in
     let a = d.before.before.args in
-    let h = places-le (get_or a.held.now d.loop.i 0) in
+    let h = places_le (get_or a.held.now d.loop.i 0) in
     let e = c.arena-length.ensures in
-    let g = start-next a.held.now d.loop.i c.before.before.before.before.loop-test.true a.kind c.before.before.if1.false in
+    let g = start_next a.held.now d.loop.i c.before.before.before.before.loop-test.true a.kind c.before.before.if1.false in
     omega arith
 
 returns-2 : tie.Need-returns-2 invariant-loop decreases-loop
@@ -70,8 +70,8 @@ returns-2 c =
     let e = start_none a.held.now c.before.loop.i c.loop-test.false a.kind in
     omega arith
 
-pub start-in-spec : {M : Type 1} → statement M
-start-in-spec =
+pub start_in_spec : {M : Type 1} → statement M
+start_in_spec =
     tie.close
     (tie.spec
     invariant-loop

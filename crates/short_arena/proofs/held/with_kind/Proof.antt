@@ -1,6 +1,6 @@
 -- `short_arena::held::with_kind` meets its contract. Assumes nothing.
 use borrow.Author.Rules.{rules}
-use Rattle.short_arena.proofs.States.{state-more}
+use Rattle.short_arena.proofs.States.{state_more}
 use Rattle.short_arena.proofs.Lending.{seventeen}
 use Rattle.short_arena.proofs.held.with_kind.Statement.{statement}
 use Rattle.short_arena.proofs.held.with_kind.Tie as tie
@@ -17,7 +17,7 @@ add-t5 c = search rules
 returns : tie.Need-returns
 returns c =
     let s = c.before.args.state in
-    state-more s.count s.kinds c.before.args.kind (seventeen s.kinds c.before.well-formed.0.1.1.1.0.1.0.1) c.before.requires.0 c.before.requires.1
+    state_more s.count s.kinds c.before.args.kind (seventeen s.kinds c.before.well-formed.0.1.1.1.0.1.0.1) c.before.requires.0 c.before.requires.1
 
-pub with-kind-spec : {M : Type 1} → statement M
-with-kind-spec = tie.close (tie.spec mul-kinds array-write-kinds add-t5 returns)
+pub with_kind_spec : {M : Type 1} → statement M
+with_kind_spec = tie.close (tie.spec mul-kinds array-write-kinds add-t5 returns)

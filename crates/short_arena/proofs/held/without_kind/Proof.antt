@@ -5,7 +5,7 @@ use Prim.Native.Nat.{ℕ, ◌+◌, ◌-◌, ◌≤◌, ◌<◌}
 use native.Mathlib.Omega.{arith}
 use lib.ListN.{length, get_or, take, set, length-append}
 use Rattle.short_arena.specs.Held.{held_of, without}
-use Rattle.short_arena.proofs.States.{padded, same-state, without-same, without_other, put_next}
+use Rattle.short_arena.proofs.States.{padded, same_state, without_same, without_other, put_next}
 use Rattle.short_arena.proofs.Lending.{seventeen}
 use Rattle.short_arena.proofs.held.without_kind.Statement.{statement}
 use Rattle.short_arena.proofs.held.without_kind.Tie as tie
@@ -69,7 +69,7 @@ loop-again-2 c =
     let k = d.before.before.args.kind in
     let i = d.loop.i in
     let h : i < length old = (let e = seventeen old d.before.before.well-formed.0.1.1.1.0.1.0.1 in let g = c.before.loop-test.true in let p = d.before.before.requires in omega arith) in
-    let e = without-same old i k h c.if1.false in (
+    let e = without_same old i k h c.if1.false in (
       omega arith,
       omega arith,
       d.loop.invariant.2 ∙ ap length (sym e),
@@ -81,11 +81,11 @@ returns c =
     let s = c.before.before.before.args.state in
     let k = c.before.before.before.args.kind in
     let e : c.before.loop.i ≡ s.count = omega arith in
-    same-state c.before.loop.n (length (without (held_of s) k)) c.before.loop.kinds (padded (without (held_of s) k))
+    same_state c.before.loop.n (length (without (held_of s) k)) c.before.loop.kinds (padded (without (held_of s) k))
     (c.before.loop.invariant.2 ∙ ap (λ (m : ℕ). length (without (take m s.kinds) k)) e) (c.before.loop.invariant.3 ∙ ap (λ (m : ℕ). padded (without (take m s.kinds) k)) e)
 
-pub without-kind-spec : {M : Type 1} → statement M
-without-kind-spec =
+pub without_kind_spec : {M : Type 1} → statement M
+without_kind_spec =
     tie.close
     (tie.spec
     invariant-loop

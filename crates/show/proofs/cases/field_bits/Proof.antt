@@ -13,5 +13,5 @@ word-requires c κs = search rules
 returns : tie.Need-returns
 returns c = c.word.ensures ∙ ap (λ (l : List ℕ). word_at l c.before.before.before.args.j) c.before.rest.ensures
 
-pub field-bits-spec : {M : Type 1} → statement M
-field-bits-spec = tie.close (tie.spec rest-requires word-requires returns)
+pub field_bits_spec : {M : Type 1} → statement M
+field_bits_spec = tie.close (tie.spec rest-requires word-requires returns)

@@ -22,8 +22,8 @@ returns : tie.Need-returns
 returns c =
     rw (c.before.fill-samples.ensures, c.before.before.before.before.before.field-bits.ensures, c.before.before.before.before.field-bits2.ensures, c.before.before.before.field-bits3.ensures)
 
-pub fill-by-rule-spec : {M : Type 1} → statement M
-fill-by-rule-spec =
+pub fill_by_rule_spec : {M : Type 1} → statement M
+fill_by_rule_spec =
     tie.close
     (tie.spec
     field-bits-requires

@@ -1,6 +1,6 @@
 -- `show::cases::listed` meets its contract. Assumes nothing.
 use Rattle.std.proofs.Common.{ℕ, ◌*◌, ap, rules}
-use Rattle.show.proofs.Laws.{part-is}
+use Rattle.show.proofs.Laws.{part_is}
 use Rattle.show.proofs.cases.listed.Statement.{statement}
 use Rattle.show.proofs.cases.listed.Tie as tie
 
@@ -27,10 +27,10 @@ first-requires c κs = search rules
 
 returns : tie.Need-returns
 returns c =
-    part-is c.before.before.before.before.before.args.s.now c.first.ensures c.before.rest.ensures c.before.before.field.ensures (ap (λ (n : ℕ). 4 * n) c.before.before.before.field-bits.ensures)
+    part_is c.before.before.before.before.before.args.s.now c.first.ensures c.before.rest.ensures c.before.before.field.ensures (ap (λ (n : ℕ). 4 * n) c.before.before.before.field-bits.ensures)
 
-pub listed-spec : {M : Type 1} → statement M
-listed-spec =
+pub listed_spec : {M : Type 1} → statement M
+listed_spec =
     tie.close
     (tie.spec
     add-field-bits

@@ -1,5 +1,5 @@
 -- `show::cases::named` meets its contract. Assumes nothing.
-use Rattle.show.proofs.Laws.{part-is}
+use Rattle.show.proofs.Laws.{part_is}
 use Rattle.std.proofs.Common.{rules}
 use Rattle.show.proofs.cases.named.Statement.{statement}
 use Rattle.show.proofs.cases.named.Tie as tie
@@ -21,9 +21,9 @@ first-requires c κs = search rules
 
 returns : tie.Need-returns
 returns c =
-    part-is c.before.before.before.before.before.args.s.now c.first.ensures c.before.before.rest.ensures c.before.before.before.field.ensures c.before.field2.ensures
+    part_is c.before.before.before.before.before.args.s.now c.first.ensures c.before.before.rest.ensures c.before.before.before.field.ensures c.before.field2.ensures
 
-pub named-spec : {M : Type 1} → statement M
-named-spec =
+pub named_spec : {M : Type 1} → statement M
+named_spec =
     tie.close
     (tie.spec field-requires rest-requires add-field field-requires-2 first-requires returns)

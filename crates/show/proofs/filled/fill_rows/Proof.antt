@@ -49,8 +49,8 @@ returns c =
     let l = c.before.loop in
     l.invariant.2 ∙ ap (λ (n : ℕ). stored (place a.list.now) (number a.list.now) n a.rows.now) (omega arith)
 
-pub fill-rows-spec : {M : Type 1} → statement M
-fill-rows-spec =
+pub fill_rows_spec : {M : Type 1} → statement M
+fill_rows_spec =
     tie.close
     (tie.spec
     invariant-loop

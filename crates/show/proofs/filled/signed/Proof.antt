@@ -20,5 +20,5 @@ returns-2 c =
     let e : 4294967295 - (4294967295 - c.before.args.bits) ≡ c.before.args.bits = omega arith in
     ap (to_z w32) e
 
-pub signed-spec : {M : Type 1} → statement M
-signed-spec = tie.close (tie.spec cast-result returns sub-v cast-v returns-2)
+pub signed_spec : {M : Type 1} → statement M
+signed_spec = tie.close (tie.spec cast-result returns sub-v cast-v returns-2)

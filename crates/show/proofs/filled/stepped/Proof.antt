@@ -1,6 +1,6 @@
 -- `show::filled::stepped` meets its contract: a rest is below the modulus. Assumes nothing.
 use Rattle.std.proofs.Common.{◌+◌, mod-lt, arith, rules}
-use Rattle.show.proofs.Laws.{modulo-some, modulo-none}
+use Rattle.show.proofs.Laws.{modulo_some, modulo_none}
 use Rattle.show.proofs.filled.stepped.Statement.{statement}
 use Rattle.show.proofs.filled.stepped.Tie as tie
 
@@ -17,10 +17,10 @@ cast-result c =
     record { fits = omega arith }
 
 returns : tie.Need-returns
-returns c = search (modulo-some, rules)
+returns c = search (modulo_some, rules)
 
 returns-2 : tie.Need-returns-2
-returns-2 c = search (modulo-none, rules)
+returns-2 c = search (modulo_none, rules)
 
-pub stepped-spec : {M : Type 1} → statement M
-stepped-spec = tie.close (tie.spec add-result rem-result cast-result returns returns-2)
+pub stepped_spec : {M : Type 1} → statement M
+stepped_spec = tie.close (tie.spec add-result rem-result cast-result returns returns-2)

@@ -1,5 +1,5 @@
 -- `show::parts::first` meets its contract. Assumes nothing.
-use Rattle.show.proofs.Laws.{first-none, first_some}
+use Rattle.show.proofs.Laws.{first_none, first_some}
 use Rattle.std.proofs.Common.{rules}
 use Rattle.show.proofs.parts.first.Statement.{statement}
 use Rattle.show.proofs.parts.first.Tie as tie
@@ -8,7 +8,7 @@ slice-aggregate-result : tie.Need-slice-aggregate-result
 slice-aggregate-result c = search rules
 
 returns : tie.Need-returns
-returns c = search (first-none, rules)
+returns c = search (first_none, rules)
 
 sub-result : tie.Need-overflow-sub-result
 sub-result c = search rules

@@ -1,5 +1,5 @@
 -- `show::parts::first_i32` meets its contract. Assumes nothing.
-use Rattle.show.proofs.Laws.{first-none, first_some}
+use Rattle.show.proofs.Laws.{first_none, first_some}
 use Rattle.std.proofs.Common.{rules}
 use Rattle.show.proofs.parts.first_i32.Statement.{statement}
 use Rattle.show.proofs.parts.first_i32.Tie as tie
@@ -8,7 +8,7 @@ slice-aggregate-result : tie.Need-slice-aggregate-result
 slice-aggregate-result c = search rules
 
 returns : tie.Need-returns
-returns c = search (first-none, rules)
+returns c = search (first_none, rules)
 
 sub-result : tie.Need-overflow-sub-result
 sub-result c = search rules
@@ -22,8 +22,8 @@ part-result-end c = search rules
 returns-2 : tie.Need-returns-2
 returns-2 c = search (first_some, rules)
 
-pub first-i32-spec : {M : Type 1} → statement M
-first-i32-spec =
+pub first_i32_spec : {M : Type 1} → statement M
+first_i32_spec =
     tie.close
     (tie.spec
     slice-aggregate-result

@@ -39,8 +39,8 @@ returns-2 c =
     let a = c.before.before.args in
     rw (word_at, le-ltb a.j (length a.s.now / 4) (search rules))
 
-pub word-spec : {M : Type 1} → statement M
-word-spec =
+pub word_spec : {M : Type 1} → statement M
+word_spec =
     tie.close
     (tie.spec
     mul-pair

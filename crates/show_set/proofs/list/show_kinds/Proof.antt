@@ -28,7 +28,7 @@ loop-again c = search rules
 returns : tie.Need-returns invariant-loop decreases-loop
 returns c = search rules
 
-pub show-kinds-spec : {M : Type 1} → statement M
-show-kinds-spec =
+pub show_kinds_spec : {M : Type 1} → statement M
+show_kinds_spec =
     tie.close
     (tie.spec invariant-loop decreases-loop loop-holds show-kind-requires add-kind loop-less loop-again returns)

@@ -17,5 +17,5 @@ list-requires c κs = tt
 returns : tie.Need-returns
 returns c = tt
 
-pub with-arenas-spec : {M : Type 1} → statement M
-with-arenas-spec = tie.close (tie.spec slice-aggregate-list slice-aggregate-list-2 list-requires returns)
+pub with_arenas_spec : {M : Type 1} → statement M
+with_arenas_spec = tie.close (tie.spec slice-aggregate-list slice-aggregate-list-2 list-requires returns)
