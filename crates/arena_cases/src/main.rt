@@ -4,6 +4,8 @@
 // length and rule, where the places to be shown are and how many, then first, count, total and kind in two words each; where a short
 // arena's state is (18 words) and its calls (eight words each), and how many words they have. A rule is six words: base, step, jump and
 // mask, where the weights that stand apart from it are and how many words they have; in a call on a short arena it is the first four.
+#![tactic(auto)]
+
 use libc::STDIN_FILENO;
 
 mod calls;

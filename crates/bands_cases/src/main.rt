@@ -1,5 +1,7 @@
 // Prints what `dct_quant_weights` answers and leaves, mode 5's interpolated numbers, and roots and powers, by bit patterns.
 // scripts/bands_cases.py prints the same lines by its own arithmetic.
+#![tactic(auto)]
+
 use bands::Banded;
 
 mod power;

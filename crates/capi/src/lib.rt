@@ -1,4 +1,6 @@
 // The C face: each call returns its reply's number, with the values in a lent slice of three places.
+#![tactic(auto)]
+
 mod header;
 mod jpeg;
 mod kind;

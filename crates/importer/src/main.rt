@@ -1,5 +1,7 @@
 // Cuts keys: expands the header on standard input, at most 2,550 bytes, and writes for each kind and channel the first row of
 // what lookup shows in the straight order: eight hexadecimal digits for a weight, commas between them.
+#![tactic(auto)]
+
 use libc::STDIN_FILENO;
 
 fn main() {

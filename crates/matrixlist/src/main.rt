@@ -1,5 +1,7 @@
 // Lists matrices: expands the header on standard input, at most 2,550 bytes, and writes for each kind and channel, of what lookup
 // shows in the straight order, the 64-bit total of bits x (place + 1) and the bits of the four corner weights.
+#![tactic(auto)]
+
 use libc::STDIN_FILENO;
 
 fn main() {

@@ -1,4 +1,6 @@
 // Lists a header: reads at most 2,550 bytes from standard input and writes the record, or the lines of what refuses it.
+#![tactic(auto)]
+
 use libc::STDIN_FILENO;
 
 fn main() {

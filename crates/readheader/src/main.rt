@@ -1,4 +1,6 @@
 // Reads a header from standard input, at most 2,550 bytes, and writes the reply and the rows.
+#![tactic(auto)]
+
 use libc::STDIN_FILENO;
 use params::Reading;
 

@@ -1,4 +1,6 @@
 // The text record of a description: written and read.
+#![tactic(auto)]
+
 mod fixed;
 mod kinds;
 mod piece;

@@ -2,6 +2,8 @@
 // `quantlist` and, of a header that is refused, `readheader`. All numbers of the input are words: how many cases there are, where each begins, and for a case: where its name is and its
 // length, the call, how many samples, their rule (base, step, modulus), how many numbers of rows, where those that are not 0 are listed
 // and in how many words, where its text or header is and its length, the buffer's length, the bit in two words, the low one first, and the kind.
+#![tactic(auto)]
+
 use libc::STDIN_FILENO;
 use record::{Taken, Written};
 use show::field;

@@ -3,6 +3,8 @@
 // name is and its length, the call, how many samples, their rule (base, step, modulus), kind, channel and order, where its places are and how many, where the
 // numbers of its rows are and how many words they have, the lengths of rows and arenas, where the samples that stand apart from the
 // rule are and how many words they have, and where its header is and its length.
+#![tactic(auto)]
+
 use libc::STDIN_FILENO;
 
 mod calls;

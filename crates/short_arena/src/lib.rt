@@ -1,5 +1,7 @@
 // A short arena: the weights of some kinds, in the order added, in a lent slice. A kind is added behind those held, looked up, and
 // dropped, when the later ones move down.
+#![tactic(auto)]
+
 mod arena;
 mod held;
 

@@ -2,6 +2,8 @@
 // is 0 and a part that isn't there is empty. A function that works something out or fills what it is lent has a contract that fixes it.
 // What is written no contract can say: a function that only writes returns nothing and is lent nothing to change, so there is nothing to
 // fix, and it has none. Each function is proved safe and ending.
+#![tactic(auto)]
+
 ghost use Rattle.std.specs.Prelude.{◌≡◌, ◌<◌, ◌≤◌, length};
 ghost use Rattle.show.specs.Refused.{refused_is};
 

@@ -1,4 +1,6 @@
 // What `quantlist` writes of a header. Why it has no contract: see the head of `show`.
+#![tactic(auto)]
+
 use record::Written;
 
 // The record of rows that were read without raw kinds. It has at most 7,079 bytes, so writing it is never refused here: `listed`, crate

@@ -1,4 +1,6 @@
 // What programs write of a header's set. Why it has no contract: see the head of `show`.
+#![tactic(auto)]
+
 use matrix::Expanded;
 
 mod list;

@@ -1,4 +1,6 @@
 // What programs write of weights. Which functions have a contract: see the head of `show`.
+#![tactic(auto)]
+
 ghost use Rattle.std.specs.Prelude.{◌≡◌};
 ghost use Rattle.total.specs.Total.{total_from};
 

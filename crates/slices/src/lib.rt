@@ -1,4 +1,6 @@
 // What is written into a lent slice of weights: others laid in from a place on, and a stretch closed up.
+#![tactic(auto)]
+
 ghost use Rattle.std.specs.Prelude.{◌≡◌};
 ghost use Rattle.slices.specs.Slices.{put_leaves, close_leaves};
 

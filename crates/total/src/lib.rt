@@ -1,4 +1,6 @@
 // The total beside an arena: one 64-bit number for its weights, wrapping round.
+#![tactic(auto)]
+
 ghost use Rattle.std.specs.Prelude.{◌≡◌, ◌+◌, ◌≤◌, length, to_bits};
 ghost use Rattle.std.specs.Float.{binary32};
 ghost use Rattle.total.specs.Total.{total_from, total_answer, part_right, replace_answer, replace_arena};
