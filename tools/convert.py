@@ -30,8 +30,8 @@ def chunks(text):
     """The top-level items, each with the comment above it."""
     out, now = [], []
     for line in text.split("\n"):
-        starts = line and not line[0].isspace()
-        if starts and now and not (now[-1].startswith("--") and not any(l and not l.startswith("--") for l in now)):
+        starts = line and not line[0].isspace() and (not now or not now[-1].strip() or line.startswith(("use ", "pub use ")) or (now and now[0].startswith(("use ", "pub use "))))
+        if starts and now and any(l.strip() and not l.startswith("--") for l in now):
             out.append(now)
             now = []
         now.append(line)

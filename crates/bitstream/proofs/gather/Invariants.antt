@@ -9,5 +9,8 @@ use Rattle.bitstream.specs.Bits.{field}
 use Rattle.bitstream.proofs.Laws.{field_fits, field_front}
 use Rattle.bitstream.proofs.gather.Given as goal
 
--- abbrev invariant-loop : tie.invariant-loop
--- abbrev decreases-loop : tie.decreases-loop
+abbrev pub invariant-loop-j : goal.invariant-loop-j
+invariant-loop-j l = (l.j ≤ l.n) × (l.v ≡ field l.bytes (l.at + l.j) (l.n - l.j))
+
+abbrev pub decreases-loop-j : goal.decreases-loop-j
+decreases-loop-j l = l.j

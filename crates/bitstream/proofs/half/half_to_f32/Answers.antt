@@ -7,19 +7,7 @@ use Rattle.bitstream.proofs.HalfLaws.{half_barred, half_given}
 use Rattle.bitstream.proofs.half.half_to_f32.Goals as goal
 
 pub returns-then-h-eq31 : goal.returns-then-h-eq31
-returns-then-h-eq31 c =?
--- 
-
-returns c = sym (half_barred _ (eq-eqb _ 31 c.if1.true))
-
-pub value_of-requires : goal.value_of-requires
-value_of-requires c =?
--- 
-
-value-of-requires c κs = search rules
+returns-then-h-eq31 c = sym (half_barred _ (eq-eqb _ 31 c.if-h-eq31.true))
 
 pub returns : goal.returns
-returns c =?
--- 
-
-returns-2 c = ap Value c.value_of_lem.ensures ∙ sym (half_given _ (ne_eqb _ 31 c.before.if1.false))
+returns c = ap Value c.value_of.ensures ∙ sym (half_given _ (ne_eqb _ 31 c.if-h-eq31.false))
