@@ -97,7 +97,7 @@ class Function:
             return f"{var}.{new}"
 
         text = re.sub(r"(?<![\w.'-])(" + NAME + r")((?:\.before)*)\.(?!before)(" + NAME + r")", one, text)
-        text = re.sub(r"\btie\.(Start|After|Then|Else|In|At|Joined)([\w-]*)((?: invariant[\w-]*)*)((?: decreases[\w-]*)*)", lambda m: "goal." + self.newname.get(self.byplain.get(plain(m.group(1) + m.group(2)), ""), m.group(1) + m.group(2)), text)
+        text = re.sub(r"\btie\.(Start|After|Then|Else|In|At|Joined)([\w-]*)((?: invariant[\w-]*)*)((?: decreases[\w-]*)*)", lambda m: "PLACE." + self.newname.get(self.byplain.get(plain(m.group(1) + m.group(2)), ""), m.group(1) + m.group(2)), text)
         return text
 
 
@@ -229,7 +229,11 @@ def convert(crate, folder, path, facts, said):
             else:
                 comment, goal, unf, var, term = a
                 lines += comment + [f"pub {goal} : goal.{goal}"] + ([unf.rstrip()] if unf else []) + [f"{goal} {var} ={term}", ""]
-        made.append(("Answers.antt", "\n".join(comment_top + uses + [f"use {goal_of}.Goals as goal", ""] + lines)))
+        body = "\n".join(lines)
+        places = sorted(set(re.findall(r"PLACE\.(" + NAME + r")", body)))
+        body = body.replace("PLACE.", "")
+        more = [f"use {goal_of}.Goals.{{{', '.join(places)}}}"] if places else []
+        made.append(("Answers.antt", "\n".join(comment_top + uses + [f"use {goal_of}.Goals as goal"] + more + [""]) + "\n" + body))
     os.remove(file)
     for name, text in made:
         if ".given" in text or ".branch" in text or "tie." in text:

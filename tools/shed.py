@@ -34,7 +34,7 @@ def main(argv):
     where = os.path.join(ROOT, "crates", argv[0])
     log = check(where)
     taken = {}
-    for path, line in re.findall(r"^\./(proofs/\S+/Answers\.antt):(\d+):\d+: error", log, re.M):
+    for path, line in re.findall(r"^\./(proofs/\S+/Answers\.antt):(\d+):\d+: error(?!: \d+ declarations? that depends?)", log, re.M):
         taken.setdefault(path, set()).add(int(line))
     held = {}
     for path, lines in taken.items():
@@ -57,9 +57,12 @@ def main(argv):
     for m in re.finditer(r"expected answers in \./(proofs/\S+/Answers\.antt); `search` did not prove ([^\n]*)", log):
         for g in re.findall(r"`(" + NAME + r")`", m.group(2)):
             missing.add((m.group(1), g))
+    proved = {m.replace("::", "/") for m in re.findall(r"^fn \w+::(\S+): proved", log, re.M)}
+    told = {path for path, _ in missing}
     back = {}
     for (path, goal), it in held.items():
-        if goal and (path, goal) in missing:
+        function = path[len("proofs/"):-len("/Answers.antt")]
+        if goal and ((path, goal) in missing or (function not in proved and path not in told)):
             back.setdefault(path, []).append(it)
     for path, its in back.items():
         file = os.path.join(where, path)
