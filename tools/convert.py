@@ -62,6 +62,7 @@ class Function:
 
     def steps(self, place, n, field):
         """The new name of a step that the old text calls by n times .before and .field at a place."""
+        field = {"well-formed": "well_formed", "pre": "requires"}.get(field, field)
         if field in ("args", "requires", "ranges", "well_formed", "utf8"):
             return field
         at = self.up(place, n)

@@ -41,7 +41,7 @@ fn turn_eight(root: &mut [u32; 8], rem: &mut [u32; 8], left: &mut [u32; 8])
 }
 
 // Eight roots, and what their numbers are beyond the squares.
-#[derive(Drop)]
+#[derive(Clone, Copy)]
 pub struct Eight {
     pub root: [u32; 8],
     pub rem: [u32; 8],

@@ -1,0 +1,17 @@
+-- `chain::by_halves`: the numbers before i are there. Assumes nothing.
+use Rattle.std.proofs.Common.{◌-◌, ◌*◌, ◌^◌, get_or, refl, rules}
+use Rattle.bands.specs.Root.{whole_root}
+use Rattle.bands.proofs.TableLaws.{Building, building_none, building_more, building_all}
+use Rattle.bands.proofs.chain.by_halves.Goals as goal
+
+pub loop-i-init : goal.loop-i-init
+loop-i-init c = building_none _ _ _ _ refl
+
+pub half-requires : goal.half-requires
+half-requires c = (c.requires.low _ c.loop-i-test.true, c.requires.high _ c.loop-i-test.true)
+
+pub loop-i-preserved : goal.loop-i-preserved
+loop-i-preserved c = building_more _ _ _ _ _ _ c.loop-i-test.true c.loop-i.invariant c.half.ensures
+
+pub returns : goal.returns
+returns c = record { each = building_all _ _ _ _ _ c.loop-i-test.false c.loop-i.invariant }

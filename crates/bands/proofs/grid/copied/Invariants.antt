@@ -1,0 +1,13 @@
+-- `grid::copied`: up to x the columns of row y are copied (`Copied`). Assumes nothing.
+use Rattle.std.proofs.Common.{◌≡◌, ℕ, ◌+◌, ◌-◌, ◌*◌, ◌<◌, ◌≤◌, length, sym, ap, ◌∙◌, subst, zero-le, lt_trans, le_of_lt, arith, rules}
+use Rattle.bands.specs.Grids.{Copied}
+use Rattle.bands.proofs.Laid.{put_length}
+use Rattle.bands.proofs.Cells.{place_in, area_le}
+use Rattle.bands.proofs.Mirror.{copied_none, copied_more, copied_all}
+use Rattle.bands.proofs.grid.copied.Given as goal
+
+abbrev pub invariant-loop-x : goal.invariant-loop-x
+invariant-loop-x l = (l.x ≤ l.y) × (length l.out ≡ 3 * (l.w * l.w)) × Copied l.w l.h l.y l.x l.initial.out l.out
+
+abbrev pub decreases-loop-x : goal.decreases-loop-x
+decreases-loop-x l = l.y - l.x

@@ -1,0 +1,34 @@
+-- `lanes::turn_eight`: each lane takes its turn (`Passing`). Assumes nothing.
+use Rattle.std.proofs.Common.{◌-◌, ◌^◌, ◌<◌, get_or, rules}
+use Rattle.bands.proofs.BringDown.{brings, fourfold}
+use Rattle.bands.proofs.InLanes.{Passing, passing_none, passing_lane, passing_more, passing_all, lane_small, lane_turn}
+use Rattle.bands.proofs.lanes.turn_eight.Goals as goal
+use Rattle.bands.proofs.lanes.turn_eight.Goals.{After-t-1}
+
+-- what is compared is small
+small : (d : After-t-1)
+    → (fourfold (2 ^ 32) (get_or d.loop-i.root d.loop-i.i 0) < 2 ^ 31)
+    × (brings (2 ^ 32) (2 ^ 30) (get_or d.loop-i.rem d.loop-i.i 0) (get_or d.loop-i.left d.loop-i.i 0) < 2 ^ 31)
+small d =
+    let m = d.before.before.before in
+    let t = m.requires in
+    lane_small _ _ _ _ _ t.more (passing_lane _ _ _ _ _ _ _ m.loop-i-test.true t m.loop-i.invariant)
+
+pub loop-i-init : goal.loop-i-init
+loop-i-init c = passing_none _ _ _
+
+pub over-requires : goal.over-requires
+over-requires c = small c
+
+pub digit-requires : goal.digit-requires
+digit-requires c = small c.before.before
+
+pub loop-i-preserved : goal.loop-i-preserved
+loop-i-preserved c =
+    let m = c.before.before.before.before.before.before.before in
+    let l = m.loop-i in
+    passing_more _ _ _ l.root l.rem l.left l.i _ _ _ m.loop-i-test.true m.requires l.invariant
+    (λ N n K d. lane_turn N n _ _ _ K d _ _ c.over.ensures c.digit.ensures)
+
+pub returns : goal.returns
+returns c = passing_all _ _ _ _ _ _ _ c.loop-i-test.false c.loop-i.invariant

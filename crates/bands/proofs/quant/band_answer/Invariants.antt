@@ -1,0 +1,12 @@
+-- `quant::band_answer`: channel by channel. Assumes nothing.
+use Rattle.std.proofs.Common.{◌≡◌, ◌-◌, ◌≤◌, arith, rules}
+use Rattle.bands.specs.Quant.{band_answer}
+use Rattle.bands.specs.declared.quant.Banded.TheVariants.{Done}
+use Rattle.bands.proofs.QuantLaws.{channel_fits, sound_part, answer_none, answer_on, answer_stop, answer_all}
+use Rattle.bands.proofs.quant.band_answer.Given as goal
+
+abbrev pub invariant-loop-c : goal.invariant-loop-c
+invariant-loop-c l = (l.c ≤ 3) × (band_answer l.numbers l.count l.c ≡ Done)
+
+abbrev pub decreases-loop-c : goal.decreases-loop-c
+decreases-loop-c l = 3 - l.c

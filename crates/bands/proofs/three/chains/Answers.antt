@@ -1,0 +1,47 @@
+-- `three::chains`: every ratio has its chain, or waits for it among those from p on (`Holding`). Assumes nothing.
+use Rattle.std.proofs.Common.{ℕ, ◌+◌, ◌-◌, ◌≤◌, replicate, arith}
+use lib.ListN.{length-replicate, get_or-replicate}
+use Rattle.bands.specs.ChainTable.{Blank}
+use Rattle.bands.proofs.Tables.{Holding, holding_none, holding_more, holding_all, holding_inside, eight_near, eight_alike, eight_rooms}
+use Rattle.bands.proofs.three.chains.Goals as goal
+use Rattle.bands.proofs.three.chains.Goals.{In-loop-p}
+
+blank : Blank (replicate 1632 2147483648)
+blank = record { long = length-replicate {A = ℕ} 1632 2147483648; each = λ k h. get_or-replicate {A = ℕ} 1632 k 2147483648 0 h }
+
+inside : (m : In-loop-p) → m.loop-p.p + 8 ≤ 48
+inside m = holding_inside _ _ _ _ _ _ m.put_starts-waiting.ensures _ _ m.loop-p-test.true m.loop-p.invariant
+
+pub put_starts-waiting-requires : goal.put_starts-waiting-requires
+put_starts-waiting-requires c = (c.requires, blank)
+
+pub loop-p-init : goal.loop-p-init
+loop-p-init c = holding_none _ _ _ _ _ _ c.put_starts-waiting.ensures
+
+pub eight-requires : goal.eight-requires
+eight-requires c = inside c.before.before
+
+pub eight-requires-in-loop-p : goal.eight-requires-in-loop-p
+eight-requires-in-loop-p c = inside c.before.before.before.before
+
+pub put_chains-requires : goal.put_chains-requires
+put_chains-requires c =
+    let m = c.before.before.before.before.before in
+    let t = m.put_starts-waiting.ensures in
+    let a = c.eight.ensures in
+    let v = c.eight-in-loop-p.ensures in
+    (eight_rooms _ _ _ _ _ _ _ _ _ (inside m) t a v, eight_near _ _ _ _ _ _ _ _ _ (inside m) t a v, eight_alike _ _ _ _ _ _ _ _ _ (inside m) t a v, m.loop-p.invariant.long)
+
+pub overflow_add-p : goal.overflow_add-p
+overflow_add-p c = omega (arith, inside c.before.before.before.before.before.before)
+
+pub loop-p-smaller : goal.loop-p-smaller
+loop-p-smaller c = omega (arith, c.loop-p-test.true)
+
+pub loop-p-preserved : goal.loop-p-preserved
+loop-p-preserved c =
+    let m = c.before.before.before.before.before.before in
+    holding_more _ _ _ _ _ _ m.put_starts-waiting.ensures _ _ _ _ _ (inside m) c.eight.ensures c.eight-in-loop-p.ensures c.put_chains.ensures m.loop-p.invariant
+
+pub returns : goal.returns
+returns c = let a = c.before.before.before.before in holding_all _ _ _ _ _ _ a.put_starts-waiting.ensures _ _ a.requires c.loop-p-test.false c.loop-p.invariant

@@ -1,0 +1,44 @@
+-- `three::powers` meets its contract: the first rows are in the range that the second start from. Assumes nothing.
+use Rattle.std.proofs.Common.{◌≡◌, ℕ, ◌+◌, refl, le_refl, arith, lit<, rules}
+use Rattle.bands.specs.Views.{Starts}
+use Rattle.bands.proofs.Tables.{ready_links, ready_starts, ready_power}
+use Rattle.bands.proofs.three.powers.Goals as goal
+
+-- where the chains of the second and the third channel start
+second_chain : (at : ℕ) → at + 1 + 34 ≡ at + 34 + 1
+second_chain at = omega arith
+
+third_chain : (at : ℕ) → at + 1 + 34 + 34 ≡ at + 34 + 34 + 1
+third_chain at = omega arith
+
+ones : Starts 1073741824
+ones = (le_refl 1073741824, lit< tt)
+
+pub rows-y-requires : goal.rows-y-requires
+rows-y-requires c =
+    let t = c.args.t.now in
+    let at = c.args.at in
+    let p = c.requires in
+    ((ready_links t at _ p.2 refl, ready_links t (at + 34) _ p.3 (second_chain at), ready_links t (at + 34 + 34) _ p.4 (third_chain at)), (ones, ones, ones))
+
+pub finish_three-requires : goal.finish_three-requires
+finish_three-requires c =
+    let d = c.before.before.before.before.before in
+    let t = d.args.t.now in
+    let at = d.args.at in
+    let p = d.requires in
+    let N = d.ranges.n.fits in
+    let r = c.rows-y.ensures in (
+      (p.0, p.2.few, p.3.few, p.4.few, N),
+      (ready_starts t at _ p.2 refl _ _ N r.0, ready_starts t (at + 34) _ p.3 (second_chain at) _ _ N r.1, ready_starts t (at + 34 + 34) _ p.4 (third_chain at) _ _ N r.2),
+    )
+
+pub returns : goal.returns
+returns c =
+    let d = c.before.before.before.before.before.before in
+    let t = d.args.t.now in
+    let at = d.args.at in
+    let p = d.requires in
+    let r = c.rows-y.ensures in
+    let f = c.finish_three.ensures in
+    (ready_power t at _ p.2 refl _ _ _ r.0 f.0, ready_power t (at + 34) _ p.3 (second_chain at) _ _ _ r.1 f.1, ready_power t (at + 34 + 34) _ p.4 (third_chain at) _ _ _ r.2 f.2)

@@ -1,0 +1,37 @@
+-- `weigh::interpolate_three` is `segment_weight` of each segment: n is one, since the fractions are. Assumes nothing.
+use Rattle.std.proofs.Common.{◌≡◌, ℕ, ◌+◌, List, sym, refl, ap, ◌∙◌, rules}
+use lib.Ieee.{Float, binary32, mul, div}
+use lib.Ieee.Fits.{div-fits}
+use Rattle.bands.specs.Power.{P}
+use Rattle.bands.specs.ChainTable.{Holds, Ready, power_in}
+use Rattle.bands.specs.Weights.{steps_of, segment_weight}
+use Rattle.bands.specs.declared.spot.Segment.{Segment}
+use Rattle.bands.proofs.Tables.{holds_ready, holds_power}
+use Rattle.bands.proofs.weigh.interpolate_three.Goals as goal
+
+-- one channel
+ready : (l : List ℕ) (at : ℕ) (s : Segment) → Holds l at (div binary32 s.b s.a) → Ready l at
+ready l at s k = holds_ready l at (div binary32 s.b s.a) (div-fits binary32 s.b s.a) k
+
+weight : (l : List ℕ) (at n : ℕ) (s : Segment) (f v : Float) → Holds l at (div binary32 s.b s.a) → n ≡ steps_of f → s.fraction ≡ f → v ≡ power_in l at n → mul binary32 s.a v ≡ segment_weight s.a s.b s.fraction
+unfolding segment_weight
+weight l at n s f v k N F e = ap (mul binary32 s.a) (e ∙ holds_power l at (div binary32 s.b s.a) (div-fits binary32 s.b s.a) k n ∙ ap (P (div binary32 s.b s.a)) (N ∙ ap steps_of (sym F)))
+
+pub powers-p-requires : goal.powers-p-requires
+powers-p-requires c =
+    let a = c.args in
+    let k = c.requires.1 in
+    (c.requires.0.0, k.0, ready a.t.now a.at a.s0 k.1, ready a.t.now (a.at + 34) a.s1 k.2, ready a.t.now (a.at + 34 + 34) a.s2 k.3)
+
+pub returns : goal.returns
+returns c =
+    let d = c.before.before.before.before.before.before in
+    let a = d.args in
+    let f = d.requires.0 in
+    let k = d.requires.1 in
+    let n = d.steps.ensures in
+    let p = d.powers-p.ensures in (
+      weight a.t.now a.at _ a.s0 _ _ k.1 n refl p.0,
+      weight a.t.now (a.at + 34) _ a.s1 _ _ k.2 n f.2 p.1,
+      weight a.t.now (a.at + 34 + 34) _ a.s2 _ _ k.3 n f.3 p.2,
+    )

@@ -1,0 +1,48 @@
+-- `weigh::weigh_three` is `between` of each channel. Assumes nothing.
+use Rattle.std.proofs.Common.{◌≡◌, ℕ, ◌+◌, ◌*◌, ◌<◌, ◌≤◌, List, sym, ap, ◌∙◌, subst, arith, lit<, rules}
+use lib.Ieee.{Float, binary32, div}
+use Rattle.bands.specs.Bands.{at_of}
+use Rattle.bands.specs.Position.{index_of, fraction_of}
+use Rattle.bands.specs.Views.{Stepped, segment_of, band_in}
+use Rattle.bands.specs.ChainTable.{Holds, Held, ratio_at}
+use Rattle.bands.specs.Weights.{segment_weight, between}
+use Rattle.bands.specs.declared.spot.Segment.{Segment}
+use Rattle.bands.proofs.Cells.{stepped, segment_between}
+use Rattle.bands.proofs.Tables.{held_at}
+use Rattle.bands.proofs.weigh.weigh_three.Goals as goal
+
+-- channel k: what the table has of its ratio, and the weight in its segment
+module _ (l : List Float) (n : ℕ) (t : List ℕ) (few : n ≤ 16) (h : Held l n t) (k i at : ℕ) (K : k < 3) (p : Float) (I : i ≡ index_of p) (in_List : i + 1 < n) (A : at ≡ i * 102 + k * 34) (s : Segment) (e : s ≡ segment_of l (k * 16) p) where
+  ratio : Holds t at (div binary32 s.b s.a)
+  ratio =
+      subst (λ (z : Segment). Holds t at (div binary32 z.b z.a)) (sym e)
+      (subst (λ (j : ℕ). Holds t at (ratio_at (at_of l) (k * 16 + j))) I (held_at l n t k i at K in_List A h))
+
+  weight : (w : Float) → w ≡ segment_weight s.a s.b s.fraction → w ≡ between (band_in l k) p
+  weight w q = q ∙ ap (λ (z : Segment). segment_weight z.a z.b z.fraction) e ∙ segment_between l k p
+
+pub interpolate_three-requires : goal.interpolate_three-requires
+interpolate_three-requires c =
+    let a = c.args in
+    let p = c.requires in
+    let x = c.index-i in
+    let f : c.cut_at-s0.result.fraction ≡ fraction_of a.p = ap (λ (s : Segment). s.fraction) c.cut_at-s0.ensures in (
+      (p.0, subst Stepped (sym f) (stepped a.count a.p p.2), ap (λ (s : Segment). s.fraction) c.cut_at-s1.ensures ∙ sym f, ap (λ (s : Segment). s.fraction) c.cut_at-s2.ensures ∙ sym f),
+      (
+        omega (arith, x.ensures.1, p.1),
+        ratio a.bands.now a.count a.t.now p.1 p.3 0 x.result _ (lit< tt) a.p x.ensures.0 x.ensures.1 (omega arith) _ c.cut_at-s0.ensures,
+        ratio a.bands.now a.count a.t.now p.1 p.3 1 x.result _ (lit< tt) a.p x.ensures.0 x.ensures.1 (omega arith) _ c.cut_at-s1.ensures,
+        ratio a.bands.now a.count a.t.now p.1 p.3 2 x.result _ (lit< tt) a.p x.ensures.0 x.ensures.1 (omega arith) _ c.cut_at-s2.ensures,
+      ),
+    )
+
+pub returns : goal.returns
+returns c =
+    let a = c.args in
+    let p = c.requires in
+    let x = c.index-i in
+    let r = c.interpolate_three.ensures in (
+      weight a.bands.now a.count a.t.now p.1 p.3 0 x.result (x.result * 102) (lit< tt) a.p x.ensures.0 x.ensures.1 (omega arith) _ c.cut_at-s0.ensures _ r.0,
+      weight a.bands.now a.count a.t.now p.1 p.3 1 x.result (x.result * 102 + 34) (lit< tt) a.p x.ensures.0 x.ensures.1 (omega arith) _ c.cut_at-s1.ensures _ r.1,
+      weight a.bands.now a.count a.t.now p.1 p.3 2 x.result (x.result * 102 + 34 + 34) (lit< tt) a.p x.ensures.0 x.ensures.1 (omega arith) _ c.cut_at-s2.ensures _ r.2,
+    )
