@@ -21,8 +21,7 @@ fn said_reading(found: Reading) -> Said
 }
 
 // Reads a header from a bit into 2,176 row numbers: at kind 0 from the flag, at another kind from its mode.
-#[unsafe(no_mangle)]
-pub extern "C" fn dequant_read_header(
+pub fn dequant_read_header(
     header: &[u8],
     bit: u64,
     kind: usize,

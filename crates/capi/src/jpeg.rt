@@ -30,8 +30,7 @@ fn first_of(channel: usize) -> u64
 }
 
 // Says where the 64 JPEG values of a channel stand in the samples, or why there are none.
-#[unsafe(no_mangle)]
-pub extern "C" fn dequant_jpeg_quant_values(
+pub fn dequant_jpeg_quant_values(
     rows: &[u16],
     samples: &[i32],
     channel: usize,

@@ -31,8 +31,7 @@ pub(crate) fn said_expanded(found: Expanded) -> Said
 }
 
 // Expands one kind from its own row of 128 and, where it is raw, its samples.
-#[unsafe(no_mangle)]
-pub extern "C" fn dequant_expand_kind(
+pub fn dequant_expand_kind(
     kind: usize,
     row: &[u16],
     samples: &[i32],

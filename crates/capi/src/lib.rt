@@ -1,4 +1,4 @@
-// The C face: each call returns its reply's number, with the values in a lent slice of three places.
+// The C face: each call returns its reply's number, with the values in a lent slice of three places. `capi_c` exports them to C.
 #![tactic(auto)]
 
 mod header;

@@ -30,8 +30,7 @@ fn said_taken(found: Taken) -> Said
 }
 
 // Writes the record of a description: all of it, or nothing.
-#[unsafe(no_mangle)]
-pub extern "C" fn dequant_write_record(
+pub fn dequant_write_record(
     rows: &[u16],
     samples: &[i32],
     text: &mut [u8],
@@ -49,8 +48,7 @@ pub extern "C" fn dequant_write_record(
 }
 
 // Reads a record into rows and samples; a refusal leaves both as they were.
-#[unsafe(no_mangle)]
-pub extern "C" fn dequant_read_record(
+pub fn dequant_read_record(
     text: &[u8],
     rows: &mut [u16],
     samples: &mut [i32],

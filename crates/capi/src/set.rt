@@ -8,8 +8,7 @@ use crate::kind::said_expanded;
 use crate::reply::say;
 
 // Expands all kinds into two arenas of 394,752; samples are as many, or none if no row is raw.
-#[unsafe(no_mangle)]
-pub extern "C" fn dequant_expand(
+pub fn dequant_expand(
     rows: &[u16],
     samples: &[i32],
     straight: &mut [f32],

@@ -23,8 +23,7 @@ fn said_short(found: Answer) -> Said
 }
 
 // Adds a kind's weights to a short arena, and says where they stand.
-#[unsafe(no_mangle)]
-pub extern "C" fn dequant_short_add(
+pub fn dequant_short_add(
     arena: &mut [f32],
     state: &mut [u8],
     kind: usize,
@@ -47,8 +46,7 @@ pub extern "C" fn dequant_short_add(
 }
 
 // Says where a kind's weights stand in a short arena.
-#[unsafe(no_mangle)]
-pub extern "C" fn dequant_short_lookup(
+pub fn dequant_short_lookup(
     arena: &[f32],
     state: &[u8],
     kind: usize,
@@ -65,8 +63,7 @@ pub extern "C" fn dequant_short_lookup(
 }
 
 // Drops a kind from a short arena: the later ones move down.
-#[unsafe(no_mangle)]
-pub extern "C" fn dequant_short_drop(
+pub fn dequant_short_drop(
     arena: &mut [f32],
     state: &mut [u8],
     kind: usize,

@@ -34,8 +34,7 @@ fn said_part(s: usize, t: usize, kind: usize, channel: usize, order: u32) -> Sai
 }
 
 // Says where one channel of a kind stands in the order named: 0 none, which shows what 2 does, 1 straight, 2 transposed. A slice cannot be handed to C, its numbers can.
-#[unsafe(no_mangle)]
-pub extern "C" fn dequant_lookup(
+pub fn dequant_lookup(
     straight: &[f32],
     transposed: &[f32],
     kind: usize,

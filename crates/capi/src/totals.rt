@@ -17,8 +17,7 @@ fn said_total(found: Total) -> Said
 }
 
 // Says the total of a stretch of an arena: of `count` places from `first` on.
-#[unsafe(no_mangle)]
-pub extern "C" fn dequant_total(arena: &[f32], first: usize, count: usize, reply: &mut [u64]) -> u32
+pub fn dequant_total(arena: &[f32], first: usize, count: usize, reply: &mut [u64]) -> u32
     ensures answer { result ≡ returned reply.old (total_reply (total_answer arena.now first count)) }
     ensures reply { reply.new ≡ held reply.old (total_reply (total_answer arena.now first count)) }
 {
@@ -30,8 +29,7 @@ pub extern "C" fn dequant_total(arena: &[f32], first: usize, count: usize, reply
 }
 
 // Replaces one kind's weights, and says the total that the arena then has if it had the one that is lent.
-#[unsafe(no_mangle)]
-pub extern "C" fn dequant_replace_kind(
+pub fn dequant_replace_kind(
     arena: &mut [f32],
     total: u64,
     kind: usize,
