@@ -28,7 +28,7 @@ def cited(path, contract, files, parameters):
     """The definitions of specs/ that a contract names, each with its file; their crate is read from the `ghost use` lines.
     A parameter hides the definition of its name."""
     origin = {}
-    for line in re.findall(r"^ghost use Rattle·(\w+)[·.]\S*?\.\{([^}]*)\};", path.read_text(), re.M):
+    for line in re.findall(r"^ghost use Rattle\.(\w+)\.\S*?\.\{([^}]*)\};", path.read_text(), re.M):
         for name in line[1].split(","):
             origin[name.strip()] = line[0]
     found, said = [], {p.split(":")[0] for p in parameters}
@@ -55,7 +55,8 @@ def told(crate, module, owner, name):
         if re.match(rf"\s*pub (extern \"C\" )?fn {name}\b", line) and here == owner:
             above = re.search(r"((?:^ *//.*\n)*)(?:^ *#\[.*\n)?\Z", text[:at], re.M)[1]
             words = " ".join(re.sub(r"^ *// ?", "", l) for l in above.splitlines())
-            contract = " ".join(re.findall(r"ensures.*?⌝ }", text[at:text.index("\n{\n" if not owner else "\n    {\n", at)], re.S))
+            signature = text[at:text.index("\n{\n" if not owner else "\n    {\n", at)]
+            contract = re.sub(r"\bensures \w+ \{", "ensures {", signature[signature.index("ensures"):] if "ensures" in signature else "")
             return path, words, contract
         at += len(line)
     sys.exit(f"{crate}::{name}: not found")
@@ -64,7 +65,7 @@ def told(crate, module, owner, name):
 def wrong_programs():
     """For each function that an edit names, by its path: what is wrong, in the order of the table's columns."""
     wrong = {}
-    for crate in re.findall(r"^(\w+):", (ROOT / "crates.txt").read_text(), re.M):
+    for crate in re.findall(r"^(\w+)[^:#\n]*:", (ROOT / "crates.txt").read_text(), re.M):
         edits = sorted((ROOT / "crates" / crate / "must-fail").glob("*.edit"), key=lambda e: ("another" in e.stem, e.stem))
         for edit in edits:
             for m in map(FN.fullmatch, edit.read_text().splitlines()):
