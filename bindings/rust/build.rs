@@ -1,4 +1,4 @@
-//! Links target/staticlib/libcapi.a of the repository, and has `rt staticlib capi` make it where it is missing.
+//! Links target/staticlib/libcapi.a of the repository, and has scripts/built.sh make it where it is missing.
 use std::path::Path;
 use std::process::Command;
 
@@ -7,8 +7,8 @@ fn main() {
     let folder = root.join("target/staticlib");
     let archive = folder.join("libcapi.a");
     if !archive.exists() {
-        let made = Command::new("rt").args(["staticlib", "capi"]).current_dir(&root).status();
-        assert!(matches!(made, Ok(s) if s.success()), "`rt staticlib capi` failed in {}", root.display());
+        let made = Command::new("bash").arg("scripts/built.sh").current_dir(&root).status();
+        assert!(matches!(made, Ok(s) if s.success()), "scripts/built.sh failed in {}", root.display());
     }
     println!("cargo:rerun-if-changed={}", archive.display());
     println!("cargo:rustc-link-search=native={}", folder.display());
