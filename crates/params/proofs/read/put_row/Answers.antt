@@ -1,0 +1,27 @@
+-- `params::read::put_row` meets its contract. The loop's invariant: j numbers of the row are copied. Assumes nothing.
+use mathlib.Core.Path.{◌≡◌}
+use Prim.Native.Nat.{◌≤◌, ◌-◌, ◌*◌}
+use native.Mathlib.Numerals.{add-one}
+use borrow.Author.Rules.{rules}
+use lib.ListN.{length, length-set}
+use lib.Seq.{paste, paste-zero, paste-suc}
+use Rattle.params.proofs.read.put_row.Goals as goal
+
+pub loop-j-init : goal.loop-j-init
+loop-j-init c = (search rules, paste-zero _ (c.args.kind * 128) c.args.t3, search rules, search rules)
+
+pub loop-j-preserved : goal.loop-j-preserved
+loop-j-preserved c =
+    let l = c.loop-j in
+    let a = c.args in (
+      search rules,
+      rw (l.invariant.1, add-one l.j) (paste-suc a.rows.now (a.kind * 128) a.t3 l.j 0 (search rules) (search rules)),
+      simp length-set l.invariant.2,
+      l.invariant.3,
+    )
+
+pub returns : goal.returns
+returns c =
+    let l = c.loop-j in
+    let e : l.j ≡ 128 = search rules in
+    rw e at l.invariant.1
