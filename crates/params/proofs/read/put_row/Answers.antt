@@ -7,8 +7,11 @@ use lib.ListN.{length, length-set}
 use lib.Seq.{paste, paste-zero, paste-suc}
 use Rattle.params.proofs.read.put_row.Goals as goal
 
-pub loop-j-init : goal.loop-j-init
-loop-j-init c = (search rules, paste-zero _ (c.args.kind * 128) c.args.t3, search rules, search rules)
+pub returns : goal.returns
+returns c =
+    let l = c.loop-j in
+    let e : l.j ≡ 128 = search rules in
+    rw e at l.invariant.1
 
 pub loop-j-preserved : goal.loop-j-preserved
 loop-j-preserved c =
@@ -19,9 +22,3 @@ loop-j-preserved c =
       simp length-set l.invariant.2,
       l.invariant.3,
     )
-
-pub returns : goal.returns
-returns c =
-    let l = c.loop-j in
-    let e : l.j ≡ 128 = search rules in
-    rw e at l.invariant.1

@@ -21,20 +21,10 @@ bounds-mode c =
     let f = c.before.before.before in
     omega (arith, value_lt _ _ 3 _ _ (sym f.read_bits.ensures ∙ f.value-1.given.1))
 
-pub read_numbers-then-requires : goal.read_numbers-then-requires
-read_numbers-then-requires c =
-    let f = c.before.before.before.before in
-    omega (arith, shape_fits f.value-1.given.0.0)
-
 pub bounds-mode-in-Value : goal.bounds-mode-in-Value
 bounds-mode-in-Value c =
     let f = c.before.before.before.before.before in
     omega (arith, value_lt _ _ 3 _ _ (sym f.read_bits.ensures ∙ f.value-1.given.1))
-
-pub read_lists-requires : goal.read_lists-requires
-read_lists-requires c =
-    let f = c.before.before.before.before.before.before in
-    omega (arith, shape_fits f.value-1.given.0.0, c.read_numbers-then.ensures.1)
 
 pub returns-in-Short : goal.returns-in-Short
 returns-in-Short c = sym (entry_short _ _ _ _ (sym c.read_bits.ensures ∙ c.lacks-1.given.1))

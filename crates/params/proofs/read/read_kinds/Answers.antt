@@ -9,6 +9,11 @@ use Rattle.params.specs.Header.{gives, kinds}
 use Rattle.params.proofs.SetLaws.{kinds_stop, kinds_step, kinds_none}
 use Rattle.params.proofs.read.read_kinds.Goals as goal
 
+pub returns : goal.returns
+returns c =
+    let l = c.loop-kind in
+    sym (kinds_none _ l.kind _ (search rules)) ∙ l.invariant.2
+
 pub returns-in_default : goal.returns-in_default
 returns-in_default c =
     let l = c.loop-kind in
@@ -28,8 +33,3 @@ loop-kind-preserved c =
           ∙ kinds_step _ l.kind l.bit l.rows _ (search rules) k.ensures
           ∙ l.invariant.2,
     )
-
-pub returns : goal.returns
-returns c =
-    let l = c.loop-kind in
-    sym (kinds_none _ l.kind _ (search rules)) ∙ l.invariant.2

@@ -14,6 +14,11 @@ use Rattle.params.proofs.read.read_lists.Goals as goal
 pub loop-i-init : goal.loop-i-init
 loop-i-init c = (search rules, search rules, rw sub-zero)
 
+pub returns : goal.returns
+returns c =
+    let l = c.loop-i in
+    sym (lists_none _ _ l.i _ (search rules)) ∙ l.invariant.2
+
 pub returns-in_default : goal.returns-in_default
 returns-in_default c =
     let l = c.loop-i in
@@ -55,8 +60,3 @@ loop-i-preserved c =
           ∙ sym (ap (λ (s : Step). band_list a.bytes.now (1 + l.i) (hand s l.row)) g.1 ∙ list_on _ _ _ _ _ _ _ v))
           l.invariant.2,
     )
-
-pub returns : goal.returns
-returns c =
-    let l = c.loop-i in
-    sym (lists_none _ _ l.i _ (search rules)) ∙ l.invariant.2

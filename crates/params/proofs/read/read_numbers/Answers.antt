@@ -12,31 +12,6 @@ use Rattle.params.proofs.read.read_numbers.Goals as goal
 pub loop-i-init : goal.loop-i-init
 loop-i-init c = (search rules, rw (sub-zero, add-zero))
 
-pub returns-in-Short : goal.returns-in-Short
-returns-in-Short c =
-    let f = c.before in
-    let l = f.loop-i in
-    let a = f.args in
-    let lacks = f.lacks-1.given.0.0 in (
-      sym (numbers_short _ (a.n - (l.i + 1)) l.at lacks)
-          ∙ numbers_step _ a.n l.i (on l.at (a.slot + l.i) l.row) (short l.at lacks) _ (search rules)
-          (sym (number_short _ _ _ _ lacks (sym f.read_bits.ensures ∙ f.lacks-1.given.1)))
-          l.invariant.1,
-      search rules,
-    )
-
-pub returns-then-value-eq31 : goal.returns-then-value-eq31
-returns-then-value-eq31 c =
-    let f = c.before.before in
-    let l = c.loop-i in
-    let a = c.args in (
-      sym (numbers_float _ (a.n - (l.i + 1)) l.at)
-          ∙ numbers_step _ a.n l.i (on l.at (a.slot + l.i) l.row) (float l.at) _ (search rules)
-          (sym (number_float _ _ _ _ _ _ (sym f.read_bits.ensures ∙ f.value-1.given.1) c.if-value-eq31.true))
-          l.invariant.1,
-      search rules,
-    )
-
 pub loop-i-preserved : goal.loop-i-preserved
 loop-i-preserved c =
     let f = c.before.before in
@@ -51,8 +26,3 @@ loop-i-preserved c =
           ∙ sym (number_on _ _ _ _ v q (sym f.read_bits.ensures ∙ f.value-1.given.1) c.if-value-eq31.false))
           l.invariant.1,
     )
-
-pub returns : goal.returns
-returns c =
-    let l = c.loop-i in
-    (sym (numbers_none _ _ l.i _ (search rules)) ∙ l.invariant.1, search rules)

@@ -19,6 +19,9 @@ whole rows k = sym (ap (row_allowed k) (cut_at (k * 128) 128 rows))
 pub loop-kind-init : goal.loop-kind-init
 loop-kind-init c = (search rules, unfold before in refl)
 
+pub returns : goal.returns
+returns c = let l = c.loop-kind in before_all _ l.kind 17 l.invariant.1 (search rules) (search rules)
+
 pub returns-then-not-row_allowed : goal.returns-then-not-row_allowed
 returns-then-not-row_allowed c =
     let l = c.loop-kind in
@@ -30,6 +33,3 @@ loop-kind-preserved c =
     let l = c.loop-kind in
     let a = c.args in
     (search rules, before_more _ l.kind l.invariant.1 (whole a.rows.now l.kind ∙ sym c.row_allowed.ensures ∙ not-false _ c.if-not-row_allowed.false))
-
-pub returns : goal.returns
-returns c = let l = c.loop-kind in before_all _ l.kind 17 l.invariant.1 (search rules) (search rules)

@@ -32,24 +32,6 @@ fit c =
 pub returns-then-mode-gt7 : goal.returns-then-mode-gt7
 returns-then-mode-gt7 c = sym (and_no _ _ (le-ltb c.args.mode 8 (search rules)))
 
-pub returns-then-not-mode_allowed : goal.returns-then-not-mode_allowed
-returns-then-not-mode_allowed c = sym (and_go _ _ (lt-ltb c.args.mode 8 (search rules)) ∙ and_no _ _ (sym c.mode_allowed.ensures ∙ not-true _ c.if-not-mode_allowed.true))
-
-pub returns-then-not-count_ok : goal.returns-then-not-count_ok
-returns-then-not-count_ok c =
-    sym
-    (and_go _ _ (lt-ltb c.args.mode 8 (search rules))
-    ∙ and_go _ _ (sym c.mode_allowed.ensures ∙ not-false _ c.if-not-mode_allowed.false)
-    ∙ and_no _ _ (sym c.count_ok.ensures ∙ not-true _ c.if-not-count_ok.true))
-
-pub returns-then-not-count_ok-2 : goal.returns-then-not-count_ok-2
-returns-then-not-count_ok-2 c =
-    sym
-    (and_go _ _ (lt-ltb c.args.mode 8 (search rules))
-    ∙ and_go _ _ (sym c.mode_allowed.ensures ∙ not-false _ c.if-not-mode_allowed.false)
-    ∙ and_go _ _ (sym c.count_ok.ensures ∙ not-false _ c.if-not-count_ok.false)
-    ∙ and_no _ _ (sym c.count_ok-2.ensures ∙ not-true _ c.if-not-count_ok-2.true))
-
 pub numbers_in-n-requires : goal.numbers_in-n-requires
 numbers_in-n-requires c =
     let f = facts c in
@@ -94,3 +76,21 @@ returns c =
     ∙ ap (λ (k : ℕ). all_zero (drop k a.slots.now)) (sym n.ensures)
     ∙ ap all_zero (sym (take_all (length a.slots.now - n.result) (drop n.result a.slots.now) (omega (arith, length-drop n.result a.slots.now))))
     ∙ sym c.all_zero.ensures)
+
+pub returns-then-not-mode_allowed : goal.returns-then-not-mode_allowed
+returns-then-not-mode_allowed c = sym (and_go _ _ (lt-ltb c.args.mode 8 (search rules)) ∙ and_no _ _ (sym c.mode_allowed.ensures ∙ not-true _ c.if-not-mode_allowed.true))
+
+pub returns-then-not-count_ok : goal.returns-then-not-count_ok
+returns-then-not-count_ok c =
+    sym
+    (and_go _ _ (lt-ltb c.args.mode 8 (search rules))
+    ∙ and_go _ _ (sym c.mode_allowed.ensures ∙ not-false _ c.if-not-mode_allowed.false)
+    ∙ and_no _ _ (sym c.count_ok.ensures ∙ not-true _ c.if-not-count_ok.true))
+
+pub returns-then-not-count_ok-2 : goal.returns-then-not-count_ok-2
+returns-then-not-count_ok-2 c =
+    sym
+    (and_go _ _ (lt-ltb c.args.mode 8 (search rules))
+    ∙ and_go _ _ (sym c.mode_allowed.ensures ∙ not-false _ c.if-not-mode_allowed.false)
+    ∙ and_go _ _ (sym c.count_ok.ensures ∙ not-false _ c.if-not-count_ok.false)
+    ∙ and_no _ _ (sym c.count_ok-2.ensures ∙ not-true _ c.if-not-count_ok-2.true))
