@@ -1,12 +1,8 @@
 -- `raw::any_raw` meets its contract. The loop's invariant: no kind before this one is raw. Assumes nothing.
-use mathlib.Core.Path.{◌≡◌, refl, sym, ap, ◌∙◌}
-use mathlib.Core.Bool.{not}
+use mathlib.Core.Path.{◌≡◌}
 use Prim.Native.Nat.{◌≤◌, ◌-◌}
-use native.Mathlib.Omega.{arith}
-use borrow.Author.Rules.{rules}
 use Rattle.transform.specs.First.{before}
-use Rattle.transform.proofs.FirstLaws.{before_more}
-use Rattle.params.proofs.RawLaws.{plain, raw_at, raw_none}
+use Rattle.params.proofs.RawLaws.{plain}
 use Rattle.params.proofs.raw.any_raw.Given as goal
 
 abbrev pub invariant-loop-kind : goal.invariant-loop-kind

@@ -1,5 +1,4 @@
 -- `raw::samples_lent` meets its contract: the tests in a row. Assumes nothing.
-use borrow.Author.Rules.{rules}
 use Rattle.params.proofs.RawLaws.{all_samples, some_samples, no_samples}
 use Rattle.params.proofs.raw.samples_lent.Goals as goal
 

@@ -1,10 +1,10 @@
 -- `params::read::put_default` meets its contract. The loop's invariant: i numbers are 0, and the rest are as they were. Assumes nothing.
-use mathlib.Core.Path.{◌≡◌, refl, ap, ◌∙◌}
+use mathlib.Core.Path.{◌≡◌, ap, ◌∙◌}
 use mathlib.Core.List.{List, ◌++◌, append-nil}
 use borrow.Author.Fill.{fill_more}
-use Prim.Native.Nat.{ℕ, ◌≤◌, ◌-◌}
+use Prim.Native.Nat.{ℕ}
 use borrow.Author.Rules.{rules}
-use lib.ListN.{length, length-set, set, replicate, drop, drop_of_length-le}
+use lib.ListN.{length-set, set, replicate, drop, drop_of_length-le}
 use Rattle.params.proofs.read.put_default.Goals as goal
 
 pub loop-i-preserved : goal.loop-i-preserved

@@ -1,10 +1,8 @@
 -- `params::read::put_default` meets its contract. The loop's invariant: i numbers are 0, and the rest are as they were. Assumes nothing.
-use mathlib.Core.Path.{◌≡◌, refl, ap, ◌∙◌}
-use mathlib.Core.List.{List, ◌++◌, append-nil}
-use borrow.Author.Fill.{fill_more}
-use Prim.Native.Nat.{ℕ, ◌≤◌, ◌-◌}
-use borrow.Author.Rules.{rules}
-use lib.ListN.{length, length-set, set, replicate, drop, drop_of_length-le}
+use mathlib.Core.Path.{◌≡◌}
+use mathlib.Core.List.{◌++◌}
+use Prim.Native.Nat.{◌≤◌, ◌-◌}
+use lib.ListN.{length, replicate, drop}
 use Rattle.params.proofs.read.put_default.Given as goal
 
 abbrev pub invariant-loop-i : goal.invariant-loop-i

@@ -1,10 +1,10 @@
 -- `params::read::put_row` meets its contract. The loop's invariant: j numbers of the row are copied. Assumes nothing.
 use mathlib.Core.Path.{◌≡◌}
-use Prim.Native.Nat.{◌≤◌, ◌-◌, ◌*◌}
+use Prim.Native.Nat.{◌*◌}
 use native.Mathlib.Numerals.{add-one}
 use borrow.Author.Rules.{rules}
-use lib.ListN.{length, length-set}
-use lib.Seq.{paste, paste-zero, paste-suc}
+use lib.ListN.{length-set}
+use lib.Seq.{paste-suc}
 use Rattle.params.proofs.read.put_row.Goals as goal
 
 pub returns : goal.returns
@@ -18,7 +18,7 @@ loop-j-preserved c =
     let l = c.loop-j in
     let a = c.args in (
       search rules,
-      rw (l.invariant.1, add-one l.j) (paste-suc a.rows.now (a.kind * 128) a.t3 l.j 0 (search rules) (search rules)),
+      rw (l.invariant.1, add-one l.j) (paste-suc a.rows.now (a.kind * 128) a.row l.j 0 (search rules) (search rules)),
       simp length-set l.invariant.2,
       l.invariant.3,
     )

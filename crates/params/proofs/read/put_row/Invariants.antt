@@ -1,10 +1,8 @@
 -- `params::read::put_row` meets its contract. The loop's invariant: j numbers of the row are copied. Assumes nothing.
 use mathlib.Core.Path.{◌≡◌}
 use Prim.Native.Nat.{◌≤◌, ◌-◌, ◌*◌}
-use native.Mathlib.Numerals.{add-one}
-use borrow.Author.Rules.{rules}
-use lib.ListN.{length, length-set}
-use lib.Seq.{paste, paste-zero, paste-suc}
+use lib.ListN.{length}
+use lib.Seq.{paste}
 use Rattle.params.proofs.read.put_row.Given as goal
 
 abbrev pub invariant-loop-j : goal.invariant-loop-j

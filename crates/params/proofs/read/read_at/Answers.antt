@@ -25,25 +25,22 @@ returns-then-kind-gt0 c =
 pub returns-then-value-eq1 : goal.returns-then-value-eq1
 returns-then-value-eq1 c =
     let a = c.args in
-    let f = c.before.before.before.before.before.before in
-    let d = c.put_default in
     told _ _ _
     (header_default a.bytes.now a.at a.kind a.rows.now (search rules) (search rules) _ _
-    (sym f.read_bits.ensures ∙ f.value-1.given.1) c.if-value-eq1.true
-    ∙ ap (gives _) (sym d.ensures))
+    (sym c.read_bits.ensures ∙ c.in-Value.is) c.if-value-eq1.true
+    ∙ ap (gives _) (sym c.put_default.ensures))
 
 pub returns-in-Short : goal.returns-in-Short
 returns-in-Short c =
     let a = c.args in
     told _ _ _
     (header_short a.bytes.now a.at a.kind a.rows.now (search rules) (search rules) _
-    (sym c.read_bits.ensures ∙ c.lacks-1.given.1))
+    (sym c.read_bits.ensures ∙ c.in-Short.is))
 
 pub returns-else-value-eq1 : goal.returns-else-value-eq1
 returns-else-value-eq1 c =
     let a = c.args in
-    let f = c.before.before.before.before.before.before in
     told _ _ _
     (header_all a.bytes.now a.at a.kind a.rows.now (search rules) (search rules) _ _
-    (sym f.read_bits.ensures ∙ f.value-1.given.1) c.if-value-eq1.false
+    (sym c.read_bits.ensures ∙ c.in-Value.is) c.if-value-eq1.false
     ∙ sym c.read_kinds-in-Value.ensures)

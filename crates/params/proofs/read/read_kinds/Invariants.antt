@@ -1,12 +1,9 @@
 -- `params::read::read_kinds` meets its contract. The loop's invariant: what is left to read, from the bit and the rows in hand, comes to what was to be read. Assumes nothing.
-use mathlib.Core.Path.{◌≡◌, refl, sym, ap, ◌∙◌}
-use Prim.Native.Nat.{◌≤◌, ◌+◌, ◌-◌}
-use borrow.Author.Rules.{rules}
+use mathlib.Core.Path.{◌≡◌}
+use Prim.Native.Nat.{◌≤◌, ◌-◌}
 use lib.ListN.{length}
-use Rattle.params.specs.declared.read.Reading.{Reading}
 use Rattle.params.specs.declared.read.Reading.TheVariants.{Done}
 use Rattle.params.specs.Header.{gives, kinds}
-use Rattle.params.proofs.SetLaws.{kinds_stop, kinds_step, kinds_none}
 use Rattle.params.proofs.read.read_kinds.Given as goal
 
 abbrev pub invariant-loop-kind : goal.invariant-loop-kind

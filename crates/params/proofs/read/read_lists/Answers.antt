@@ -1,12 +1,12 @@
 -- `params::read::read_lists` meets its contract: a count of four bits is below 16, so each list has 48 numbers at most. The loop's invariant is as that of `read_numbers`. Assumes nothing.
-use mathlib.Core.Path.{◌≡◌, sym, ap, ◌∙◌}
-use Prim.Native.Nat.{◌≤◌, ◌+◌, ◌-◌, ◌*◌}
+use mathlib.Core.Path.{sym, ap, ◌∙◌}
+use Prim.Native.Nat.{◌+◌, ◌-◌}
 use native.Mathlib.Omega.{arith}
 use native.Mathlib.Nat.{sub-zero}
 use borrow.Author.Rules.{rules}
 use Rattle.bitstream.proofs.Laws.{value_lt}
 use Rattle.params.specs.declared.read.Step.{Step}
-use Rattle.params.specs.Row.{short, band_list, band_lists}
+use Rattle.params.specs.Row.{short, band_list}
 use Rattle.params.specs.Steps.{hand, slot_of}
 use Rattle.params.proofs.RowLaws.{list_short, list_on, lists_step, lists_none, lists_stays, lists_short, stopped_list}
 use Rattle.params.proofs.read.read_lists.Goals as goal
@@ -22,41 +22,36 @@ returns c =
 pub returns-in_default : goal.returns-in_default
 returns-in_default c =
     let l = c.loop-i in
-    sym (lists_stays _ _ _ (hand l.at l.row) (λ j. stopped_list l.at c.in_default.keys2 _ j l.row)) ∙ l.invariant.2
+    sym (lists_stays _ _ _ (hand l.at l.row) (λ j. stopped_list l.at c.in_default.not-On _ j l.row)) ∙ l.invariant.2
 
 pub returns-in-Short : goal.returns-in-Short
 returns-in-Short c =
-    let f = c.before in
-    let l = f.loop-i in
-    let a = f.args in
-    let g = f.at-1.given in
-    let lacks = f.lacks-1.given.0.0 in
-    sym (lists_short _ (a.n - (l.i + 1)) (1 + (l.i + 1)) g.0.0 lacks)
-    ∙ lists_step _ a.n l.i (hand l.at l.row) (short g.0.0 lacks) _ (search rules)
-    (sym (ap (λ (s : Step). band_list a.bytes.now (1 + l.i) (hand s l.row)) g.1 ∙ list_short _ _ _ _ _ lacks (sym f.read_bits.ensures ∙ f.lacks-1.given.1)))
+    let l = c.loop-i in
+    let a = c.args in
+    let p = c.in-On.bit in
+    let lacks = c.in-Short.lacks in
+    sym (lists_short _ (a.n - (l.i + 1)) (1 + (l.i + 1)) p lacks)
+    ∙ lists_step _ a.n l.i (hand l.at l.row) (short p lacks) _ (search rules)
+    (sym (ap (λ (s : Step). band_list a.bytes.now (1 + l.i) (hand s l.row)) c.in-On.is ∙ list_short _ _ _ _ _ lacks (sym c.read_bits.ensures ∙ c.in-Short.is)))
     l.invariant.2
 
 pub overflow_add-count : goal.overflow_add-count
-overflow_add-count c = omega (arith, value_lt _ _ 4 _ _ (sym c.read_bits.ensures ∙ c.value-1.given.1))
+overflow_add-count c = omega (arith, value_lt _ _ 4 _ _ (sym c.read_bits.ensures ∙ c.in-Value.is))
 
 pub read_numbers-at-requires : goal.read_numbers-at-requires
 read_numbers-at-requires c =
-    let f = c.before.before in
-    let l = f.loop-i in
-    let e = ap slot_of f.at-1.given.1 in
-    omega (arith, e, l.invariant.1, f.loop-i-test.true, f.requires, value_lt _ _ 4 _ _ (sym f.read_bits.ensures ∙ f.value-1.given.1))
+    let l = c.loop-i in
+    omega (arith, ap slot_of c.in-On.is, l.invariant.1, c.loop-i-test.true, c.requires, value_lt _ _ 4 _ _ (sym c.read_bits.ensures ∙ c.in-Value.is))
 
 pub loop-i-preserved : goal.loop-i-preserved
 loop-i-preserved c =
-    let f = c.before.before.before in
-    let l = f.loop-i in
-    let a = f.args in
-    let g = f.at-1.given in
-    let v = sym f.read_bits.ensures ∙ f.value-1.given.1 in (
-      omega (arith, f.loop-i-test.true),
-      omega (arith, c.read_numbers-at.ensures.1, ap slot_of g.1, l.invariant.1, value_lt _ _ 4 _ _ v),
-      lists_step _ a.n l.i (hand l.at l.row) _ _ f.loop-i-test.true
-          (c.read_numbers-at.ensures.0
-          ∙ sym (ap (λ (s : Step). band_list a.bytes.now (1 + l.i) (hand s l.row)) g.1 ∙ list_on _ _ _ _ _ _ _ v))
+    let l = c.loop-i in
+    let a = c.args in
+    let v = sym c.read_bits.ensures ∙ c.in-Value.is in (
+      omega (arith, c.loop-i-test.true),
+      omega (arith, c.read_numbers-at.ensures.result_bound, ap slot_of c.in-On.is, l.invariant.1, value_lt _ _ 4 _ _ v),
+      lists_step _ a.n l.i (hand l.at l.row) _ _ c.loop-i-test.true
+          (c.read_numbers-at.ensures.row_after
+          ∙ sym (ap (λ (s : Step). band_list a.bytes.now (1 + l.i) (hand s l.row)) c.in-On.is ∙ list_on _ _ _ _ _ _ _ v))
           l.invariant.2,
     )

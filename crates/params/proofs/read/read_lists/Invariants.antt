@@ -1,14 +1,8 @@
 -- `params::read::read_lists` meets its contract: a count of four bits is below 16, so each list has 48 numbers at most. The loop's invariant is as that of `read_numbers`. Assumes nothing.
-use mathlib.Core.Path.{◌≡◌, sym, ap, ◌∙◌}
+use mathlib.Core.Path.{◌≡◌}
 use Prim.Native.Nat.{◌≤◌, ◌+◌, ◌-◌, ◌*◌}
-use native.Mathlib.Omega.{arith}
-use native.Mathlib.Nat.{sub-zero}
-use borrow.Author.Rules.{rules}
-use Rattle.bitstream.proofs.Laws.{value_lt}
-use Rattle.params.specs.declared.read.Step.{Step}
-use Rattle.params.specs.Row.{short, band_list, band_lists}
+use Rattle.params.specs.Row.{band_lists}
 use Rattle.params.specs.Steps.{hand, slot_of}
-use Rattle.params.proofs.RowLaws.{list_short, list_on, lists_step, lists_none, lists_stays, lists_short, stopped_list}
 use Rattle.params.proofs.read.read_lists.Given as goal
 
 abbrev pub invariant-loop-i : goal.invariant-loop-i

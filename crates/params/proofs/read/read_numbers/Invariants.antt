@@ -1,12 +1,7 @@
 -- `params::read::read_numbers` meets its contract: the field that `read_bits` found says which case of `number` holds. The loop's invariant: what is left to read, from the bit and the row in hand, comes to what was to be read. Assumes nothing.
-use mathlib.Core.Path.{◌≡◌, sym, ap, ◌∙◌}
-use Prim.Native.Nat.{ℕ, ◌≤◌, ◌+◌, ◌-◌}
-use native.Mathlib.Omega.{arith}
-use native.Mathlib.Nat.{sub-zero, add-zero}
-use borrow.Author.Rules.{rules}
-use lib.ListN.{set}
-use Rattle.params.specs.Row.{on, short, float, numbers}
-use Rattle.params.proofs.RowLaws.{number_short, number_float, number_on, numbers_short, numbers_float, numbers_step, numbers_none}
+use mathlib.Core.Path.{◌≡◌}
+use Prim.Native.Nat.{◌≤◌, ◌+◌, ◌-◌}
+use Rattle.params.specs.Row.{on, numbers}
 use Rattle.params.proofs.read.read_numbers.Given as goal
 
 abbrev pub invariant-loop-i : goal.invariant-loop-i

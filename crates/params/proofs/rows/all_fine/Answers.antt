@@ -1,9 +1,8 @@
 -- `params::rows::all_fine` meets its contract. The loop's invariant: the numbers from i on pass the test exactly if all do. Assumes nothing.
-use mathlib.Core.Path.{◌≡◌, refl, sym, ap, ◌∙◌}
-use Prim.Native.Nat.{◌≤◌, ◌-◌}
+use mathlib.Core.Path.{sym, ap, ◌∙◌}
 use borrow.Author.Rules.{rules}
 use borrow.Author.Tests.{eq-eqb, ne_eqb}
-use lib.ListN.{length, drop, drop_of_length-le}
+use lib.ListN.{drop_of_length-le}
 use Rattle.params.specs.Allowed.{all_fine}
 use Rattle.params.proofs.AllowedLaws.{fine_stop, fine_go}
 use Rattle.params.proofs.rows.all_fine.Goals as goal

@@ -1,11 +1,9 @@
 -- `params::rows::all_zero` meets its contract. The loop's invariant is as that of `all_fine`. Assumes nothing.
-use mathlib.Core.Path.{◌≡◌, refl, sym, ◌∙◌}
-use Prim.Native.Nat.{◌≤◌, ◌-◌}
+use mathlib.Core.Path.{sym, ◌∙◌}
 use native.Mathlib.Omega.{arith}
 use borrow.Author.Rules.{rules}
 use borrow.Author.Tests.{eq-eqb, ne_eqb}
-use lib.ListN.{length, drop, get_or}
-use Rattle.transform.specs.Zeros.{all_zero}
+use lib.ListN.{get_or}
 use Rattle.transform.proofs.ZeroLaws.{zero_stop, zero_go, zero_none}
 use Rattle.params.proofs.rows.all_zero.Goals as goal
 

@@ -1,11 +1,9 @@
 -- `params::rows::allowed_rows` meets its contract. The loop's invariant: all rows before this kind's are allowed. Assumes nothing.
 use mathlib.Core.Path.{◌≡◌, refl, sym, ap, ◌∙◌}
 use mathlib.Core.List.{List}
-use Prim.Native.Nat.{ℕ, ◌≤◌, ◌+◌, ◌-◌, ◌*◌}
+use Prim.Native.Nat.{ℕ, ◌+◌, ◌-◌, ◌*◌}
 use lib.ListN.{take, drop}
-use native.Mathlib.Omega.{arith}
 use borrow.Author.Rules.{rules}
-use borrow.Author.Tests.{not-true, not-false}
 use Rattle.transform.specs.First.{before}
 use Rattle.transform.proofs.FirstLaws.{before_more, before_stop, before_all}
 use Rattle.transform.proofs.PartLaws.{cut_at}
@@ -26,10 +24,10 @@ pub returns-then-not-row_allowed : goal.returns-then-not-row_allowed
 returns-then-not-row_allowed c =
     let l = c.loop-kind in
     let a = c.args in
-    sym (before_stop _ l.kind 17 l.invariant.1 (whole a.rows.now l.kind ∙ sym c.row_allowed.ensures ∙ not-true _ c.if-not-row_allowed.true) (search rules))
+    sym (before_stop _ l.kind 17 l.invariant.1 (whole a.rows.now l.kind ∙ sym c.row_allowed.ensures ∙ c.if-not-row_allowed.true) (search rules))
 
 pub loop-kind-preserved : goal.loop-kind-preserved
 loop-kind-preserved c =
     let l = c.loop-kind in
     let a = c.args in
-    (search rules, before_more _ l.kind l.invariant.1 (whole a.rows.now l.kind ∙ sym c.row_allowed.ensures ∙ not-false _ c.if-not-row_allowed.false))
+    (search rules, before_more _ l.kind l.invariant.1 (whole a.rows.now l.kind ∙ sym c.row_allowed.ensures ∙ c.if-not-row_allowed.false))

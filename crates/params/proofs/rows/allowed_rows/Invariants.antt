@@ -1,14 +1,7 @@
 -- `params::rows::allowed_rows` meets its contract. The loop's invariant: all rows before this kind's are allowed. Assumes nothing.
-use mathlib.Core.Path.{◌≡◌, refl, sym, ap, ◌∙◌}
-use mathlib.Core.List.{List}
-use Prim.Native.Nat.{ℕ, ◌≤◌, ◌+◌, ◌-◌, ◌*◌}
-use lib.ListN.{take, drop}
-use native.Mathlib.Omega.{arith}
-use borrow.Author.Rules.{rules}
-use borrow.Author.Tests.{not-true, not-false}
+use mathlib.Core.Path.{◌≡◌}
+use Prim.Native.Nat.{◌≤◌, ◌-◌}
 use Rattle.transform.specs.First.{before}
-use Rattle.transform.proofs.FirstLaws.{before_more, before_stop, before_all}
-use Rattle.transform.proofs.PartLaws.{cut_at}
 use Rattle.params.specs.Allowed.{row_allowed, row_at}
 use Rattle.params.proofs.rows.allowed_rows.Given as goal
 

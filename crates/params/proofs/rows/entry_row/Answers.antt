@@ -7,13 +7,13 @@ use borrow.Author.Rules.{rules}
 use Rattle.params.proofs.rows.entry_row.Goals as goal
 
 pub overflow_cast-row : goal.overflow_cast-row
-overflow_cast-row c = omega (arith, c.shared_slice_known-then-row-eq128-1.given 0)
+overflow_cast-row c = omega (arith, c.type_inv.row 0)
 
 pub overflow_cast-row-then-row-eq128 : goal.overflow_cast-row-then-row-eq128
-overflow_cast-row-then-row-eq128 c = omega (arith, c.shared_slice_known-then-row-eq128-2-1.given 1)
+overflow_cast-row-then-row-eq128 c = omega (arith, c.type_inv.row 1)
 
 pub overflow_cast-row-then-row-eq128-2 : goal.overflow_cast-row-then-row-eq128-2
-overflow_cast-row-then-row-eq128-2 c = omega (arith, c.shared_slice_known-then-row-eq128-3-1.given 2)
+overflow_cast-row-then-row-eq128-2 c = omega (arith, c.type_inv.row 2)
 
 pub returns-then-row-eq128 : goal.returns-then-row-eq128
 returns-then-row-eq128 c =

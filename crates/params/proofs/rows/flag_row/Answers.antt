@@ -4,7 +4,6 @@ use Prim.Native.Nat.{◌-◌}
 use native.Mathlib.Omega.{arith}
 use lib.ListN.{length, drop, length-drop}
 use lib.Seq.{length-take-le, take_all}
-use borrow.Author.Tests.{not-true, not-false}
 use Rattle.transform.specs.Zeros.{all_zero}
 use Rattle.params.proofs.FaultLaws.{flag_length, flag_slot, flag_before, flag_behind}
 use borrow.Author.Rules.{rules}
@@ -20,11 +19,11 @@ pub slice_bounds-all_zero-end : goal.slice_bounds-all_zero-end
 slice_bounds-all_zero-end c = sym (length-take-le 126 c.args.row.now (omega arith))
 
 pub returns-then-not-all_zero : goal.returns-then-not-all_zero
-returns-then-not-all_zero c = flag_before _ (search rules) (search rules) (sym c.all_zero.ensures ∙ not-true _ c.if-not-all_zero.true)
+returns-then-not-all_zero c = flag_before _ (search rules) (search rules) (sym c.all_zero.ensures ∙ c.if-not-all_zero.true)
 
 pub returns : goal.returns
 returns c =
     let r = c.args.row.now in
     c.all_zero-2.ensures
     ∙ ap all_zero (take_all (length r - 127) (drop 127 r) (omega (arith, length-drop 127 r)))
-    ∙ flag_behind _ (search rules) (search rules) (sym c.all_zero.ensures ∙ not-false _ c.if-not-all_zero.false)
+    ∙ flag_behind _ (search rules) (search rules) (sym c.all_zero.ensures ∙ c.if-not-all_zero.false)

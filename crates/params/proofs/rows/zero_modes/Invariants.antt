@@ -1,12 +1,8 @@
 -- `params::rows::zero_modes` meets its contract. The loop's invariant: all modes before this kind are 0. Assumes nothing.
-use mathlib.Core.Path.{◌≡◌, refl, sym}
+use mathlib.Core.Path.{◌≡◌}
 use Prim.Native.Nat.{◌≤◌, ◌-◌}
-use native.Mathlib.Omega.{arith}
-use borrow.Author.Rules.{rules}
-use borrow.Author.Tests.{eq-eqb, ne_eqb}
 use lib.Dec.{eqb}
 use Rattle.transform.specs.First.{before}
-use Rattle.transform.proofs.FirstLaws.{before_more, before_stop, before_all}
 use Rattle.params.specs.Allowed.{mode_at}
 use Rattle.params.proofs.rows.zero_modes.Given as goal
 
