@@ -20,16 +20,6 @@ copied-from-requires c = let g = c.requires.0 in (g.wide, g.not_wider, c.loop-y-
 pub positions-s-requires : goal.positions-s-requires
 positions-s-requires c = let p = c.requires in (sized _ _ _ _ p.0 p.1, c.loop-y-test.true)
 
-pub weigh_row-requires : goal.weigh_row-requires
-weigh_row-requires c =
-    let a = c.args in
-    let p = c.requires in
-    let l = c.loop-y in
-    let k = c.copied-from.ensures in (
-      (sized _ _ _ _ p.0 p.1, k.0, c.loop-y-test.true, c.positions-s.ensures),
-      (c.chains-t.ensures, k.1.lays (grid_cell a.bands.now a.count a.w a.h) (mirrored a.bands.now a.count a.w a.h) l.invariant.1),
-    )
-
 pub overflow_add-y : goal.overflow_add-y
 overflow_add-y c = omega (arith, c.loop-y-test.true, c.requires.0.not_higher)
 

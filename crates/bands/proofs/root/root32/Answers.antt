@@ -33,11 +33,12 @@ returns-then-x c = nan_root c.args.x (differs_from_itself c.args.x (subst T (sym
 pub float_to_bits-b : goal.float_to_bits-b
 float_to_bits-b c = same_is_number c.args.x c.if-x.false
 
-pub root_bits-requires : goal.root_bits-requires
-root_bits-requires c = kept_away (to_bits binary32 c.args.x) c.in_default.rest.1 c.if-b-gt2139095040.false
-
 pub float_from_bits-result : goal.float_from_bits-result
 float_from_bits-result c = no_nan_bits c.root_bits.result c.root_bits.ensures.1
+
+pub returns-else-b-gt2139095040 : goal.returns-else-b-gt2139095040
+returns-else-b-gt2139095040 c =
+    c.root_bits.ensures.0 ∙ ap root_of (of_bits-to_bits binary32 c.args.x (held c.before.before.before.before))
 
 pub returns-in-0 : goal.returns-in-0
 returns-in-0 c =
@@ -50,7 +51,3 @@ returns-then-b-gt2139095040 c =
     let x = c.args.x in
     let fit = held c.before.before.before in
     no_quotient ∙ sym (root_none (to_bits binary32 x) (to_bits-lt binary32 x fit) c.if-b-gt2139095040.true (λ e. c.in_default.rest.1 (inr (inr e)))) ∙ ap root_of (of_bits-to_bits binary32 x fit)
-
-pub returns-else-b-gt2139095040 : goal.returns-else-b-gt2139095040
-returns-else-b-gt2139095040 c =
-    c.root_bits.ensures.0 ∙ ap root_of (of_bits-to_bits binary32 c.args.x (held c.before.before.before.before))

@@ -41,6 +41,20 @@ overflow_mul-all c = omega (arith, inside c.before.before.before)
 pub offset_bounds-all-p : goal.offset_bounds-all-p
 offset_bounds-all-p c = omega (arith, inside c.before.before.before)
 
+pub loop-p-smaller : goal.loop-p-smaller
+loop-p-smaller c = omega (arith, c.loop-p-test.true)
+
+pub loop-p-preserved : goal.loop-p-preserved
+loop-p-preserved c =
+    let k = c.before in
+    let a = k.before in
+    let m = a.before.before.before in
+    let e = a.start_of-q.ensures in
+    starting_more _ _ _ _ _ _ _ _ _ _ m.loop-p-test.true m.requires.0 m.loop-p.invariant e.0 e.1 _ k.counted-n.ensures _ c.across-band.ensures
+
+pub returns : goal.returns
+returns c = starting_all _ _ _ _ _ _ _ _ c.requires.0 c.loop-p-test.false c.loop-p.invariant
+
 pub bounds-all-p : goal.bounds-all-p
 bounds-all-p c = omega (arith, inside c.before.before.before)
 
@@ -70,17 +84,3 @@ across-band-requires c = omega (arith, inside c.before.before.before.before)
 
 pub overflow_add-p-in-loop-p : goal.overflow_add-p-in-loop-p
 overflow_add-p-in-loop-p c = omega (arith, inside c.before.before.before.before.before)
-
-pub loop-p-smaller : goal.loop-p-smaller
-loop-p-smaller c = omega (arith, c.loop-p-test.true)
-
-pub loop-p-preserved : goal.loop-p-preserved
-loop-p-preserved c =
-    let k = c.before in
-    let a = k.before in
-    let m = a.before.before.before in
-    let e = a.start_of-q.ensures in
-    starting_more _ _ _ _ _ _ _ _ _ _ m.loop-p-test.true m.requires.0 m.loop-p.invariant e.0 e.1 _ k.counted-n.ensures _ c.across-band.ensures
-
-pub returns : goal.returns
-returns c = starting_all _ _ _ _ _ _ _ _ c.requires.0 c.loop-p-test.false c.loop-p.invariant

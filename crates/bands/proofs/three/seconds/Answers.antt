@@ -5,12 +5,6 @@ use Rattle.bands.proofs.PowerLaws.{second_is}
 use Rattle.bands.proofs.Tables.{top_links}
 use Rattle.bands.proofs.three.seconds.Goals as goal
 
-pub rows-requires : goal.rows-requires
-rows-requires c =
-    let s = c.before.before.before.before in
-    let l = top_links s.args.top.now s.requires.0.0 in
-    ((l, l, l), s.requires.1)
-
 pub returns-then-e1-e2 : goal.returns-then-e1-e2
 returns-then-e1-e2 c =
     let a = c.args in
