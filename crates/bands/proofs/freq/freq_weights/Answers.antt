@@ -33,4 +33,4 @@ returns c =
     ∙ corner_weights v.args.numbers.now b.result b.ensures
 
 pub all_bands-bands-requires : goal.all_bands-bands-requires
-all_bands-bands-requires c = (lit≤ tt, lit≤ tt, c.all_bands-arg-1.given.0)
+all_bands-bands-requires c = (lit≤ tt, lit≤ tt, c.all_bands-arg-1.given)

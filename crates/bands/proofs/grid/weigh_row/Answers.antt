@@ -26,26 +26,25 @@ returns c =
 pub weigh_three-v-requires : goal.weigh_three-v-requires
 weigh_three-v-requires c =
     let a = c.args in
-    let p = c.requires in
+    let p = c.requires.sized in
     let l = c.loop-x in
     let t : l.x < a.w = c.loop-x-test.true in
-    let g = p.0.0 in
-    (c.top_chain-top.ensures, g.few, subst (Cut a.count) (sym (p.0.3.each l.x l.invariant.0 t)) (place_cut a.count a.w a.h a.y l.x g.many g.few g.wide g.not_wider g.high g.not_higher p.0.2 t), p.1.0)
+    let g = p.0 in
+    (c.top_chain-top.ensures, g.few, subst (Cut a.count) (sym (p.3.each l.x l.invariant.0 t)) (place_cut a.count a.w a.h a.y l.x g.many g.few g.wide g.not_wider g.high g.not_higher p.2 t), c.requires.held.0)
 
 pub loop-x-preserved : goal.loop-x-preserved
 loop-x-preserved c =
-    let d = c.before.before.before.before.before.before.before.before in
-    let a = d.args in
-    let p = d.requires in
-    let l = d.loop-x in
+    let a = c.args in
+    let p = c.requires.sized in
+    let l = c.loop-x in
     let t : l.x < a.w = c.loop-x-test.true in
-    let m = p.0.3.each l.x l.invariant.0 t in
+    let m = p.3.each l.x l.invariant.0 t in
     let v = c.weigh_three-v.ensures in
     let g = l.invariant.0 in (
       omega (arith, g),
       omega (arith, t),
-      laid_next (grid_cell a.bands.now a.count a.w a.h) l.out _ (a.w * a.h) (a.y * a.w + l.x) _ _ _ _ (add_assoc (a.y * a.w) l.x 1) (place_in a.y l.x a.w a.h t p.0.2) l.invariant.2 c.put.ensures
-          (row_cell a.y l.x a.w a.h t p.0.2 (band_in a.bands.now 0) a.count _ _ p.0.0.many m v.0)
-          (row_cell a.y l.x a.w a.h t p.0.2 (band_in a.bands.now 1) a.count _ _ p.0.0.many m v.1)
-          (row_cell a.y l.x a.w a.h t p.0.2 (band_in a.bands.now 2) a.count _ _ p.0.0.many m v.2),
+      laid_next (grid_cell a.bands.now a.count a.w a.h) l.out _ (a.w * a.h) (a.y * a.w + l.x) _ _ _ _ (add_assoc (a.y * a.w) l.x 1) (place_in a.y l.x a.w a.h t p.2) l.invariant.2 c.put.ensures
+          (row_cell a.y l.x a.w a.h t p.2 (band_in a.bands.now 0) a.count _ _ p.0.many m v.0)
+          (row_cell a.y l.x a.w a.h t p.2 (band_in a.bands.now 1) a.count _ _ p.0.many m v.1)
+          (row_cell a.y l.x a.w a.h t p.2 (band_in a.bands.now 2) a.count _ _ p.0.many m v.2),
     )

@@ -31,4 +31,4 @@ pub returns : goal.returns
 returns c = passing_all _ _ _ _ _ _ _ c.loop-i-test.false c.loop-i.invariant
 
 pub digit-requires : goal.digit-requires
-digit-requires c = small c.before.before
+digit-requires c = lane_small _ _ _ _ _ c.requires.more (passing_lane _ _ _ _ _ _ _ c.loop-i-test.true c.requires c.loop-i.invariant)

@@ -47,3 +47,6 @@ returns c =
     c.finish.ensures
     ∙ ap (λ (y : ℕ). finished e a.n y) (c.second.ensures ∙ ap (second_row e a.n) c.row.ensures)
     ∙ power_is a.q (held d.before.before) _ e a.n (start d) d.start_of-s.ensures.0
+
+pub row-requires-clause-chain : goal.row-requires-clause-chain
+row-requires-clause-chain c = links c.before.before.before

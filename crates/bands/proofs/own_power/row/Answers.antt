@@ -28,7 +28,7 @@ pub returns : goal.returns
 returns c = left_none _ _ _ _ _ c.loop-left-test.false c.loop-left.invariant
 
 pub overflow_mul-z : goal.overflow_mul-z
-overflow_mul-z c = let d = c.before in record { fits = link_fits d.args.roots.now 0 _ _ _ _ _ (omega arith) (links_of _ d.requires.0) d.loop-left.invariant d.loop-left-test.true d.requires.1.0 d.requires.1.1 d.requires.1.2 }
+overflow_mul-z c = let y = c.requires.y_nonzero in record { fits = link_fits c.args.roots.now 0 _ _ _ _ _ (omega arith) (links_of _ c.requires.chain) c.loop-left.invariant c.loop-left-test.true y.0 y.1 y.2 }
 
 pub loop-left-preserved : goal.loop-left-preserved
-loop-left-preserved c = let d = c.before in link_on d.args.roots.now 0 _ _ _ _ _ (omega arith) (links_of _ d.requires.0) d.loop-left.invariant d.loop-left-test.true
+loop-left-preserved c = link_on c.args.roots.now 0 _ _ _ _ _ (omega arith) (links_of _ c.requires.chain) c.loop-left.invariant c.loop-left-test.true

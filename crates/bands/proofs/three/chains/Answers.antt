@@ -40,5 +40,4 @@ returns c = let a = c.before.before.before.before in holding_all _ _ _ _ _ _ a.p
 
 pub loop-p-preserved : goal.loop-p-preserved
 loop-p-preserved c =
-    let m = c.before.before.before.before.before.before in
-    holding_more _ _ _ _ _ _ m.put_starts-waiting.ensures _ _ _ _ _ (inside m) c.eight.ensures c.eight-in-loop-p.ensures c.put_chains.ensures m.loop-p.invariant
+    holding_more _ _ _ _ _ _ c.put_starts-waiting.ensures _ _ _ _ _ (holding_inside _ _ _ _ _ _ c.put_starts-waiting.ensures _ _ c.loop-p-test.true c.loop-p.invariant) c.eight.ensures c.eight-in-loop-p.ensures c.put_chains.ensures c.loop-p.invariant

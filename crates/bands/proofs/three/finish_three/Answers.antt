@@ -14,10 +14,10 @@ returns c =
     )
 
 pub finish-requires : goal.finish-requires
-finish-requires c = let p = c.requires in let z = second_range _ _ _ _ p.1.0 c.seconds-y.ensures.0 in (p.0.1, p.0.4, z.0, z.1)
+finish-requires c = let p = c.requires in let z = second_range _ _ _ _ p.starts.0 c.seconds-y.ensures.0 in (p.top_value.1, p.top_value.4, z.0, z.1)
 
 pub finish-requires-2 : goal.finish-requires-2
-finish-requires-2 c = let p = c.requires in let z = second_range _ _ _ _ p.1.1 c.seconds-y.ensures.1 in (p.0.2, p.0.4, z.0, z.1)
+finish-requires-2 c = let p = c.requires in let z = second_range _ _ _ _ p.starts.1 c.seconds-y.ensures.1 in (p.top_value.2, p.top_value.4, z.0, z.1)
 
 pub finish-requires-3 : goal.finish-requires-3
-finish-requires-3 c = let p = c.requires in let z = second_range _ _ _ _ p.1.2 c.seconds-y.ensures.2 in (p.0.3, p.0.4, z.0, z.1)
+finish-requires-3 c = let p = c.requires in let z = second_range _ _ _ _ p.starts.2 c.seconds-y.ensures.2 in (p.top_value.3, p.top_value.4, z.0, z.1)

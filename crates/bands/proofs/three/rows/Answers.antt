@@ -40,31 +40,28 @@ returns c = let l = c.loop-left-test.false in let i = c.loop-left.invariant in (
 
 pub overflow_mul-a : goal.overflow_mul-a
 overflow_mul-a c =
-    let d = c.before in
-    let a = d.args in
-    let y = d.requires.1.0 in
-    record { fits = link_fits a.t.now a.at _ _ _ _ _ (in_first a.at _) d.requires.0.0 d.loop-left.invariant.0 d.loop-left-test.true (start_pos _ y) (le_of_lt y.1) d.ranges.n.fits }
+    let a = c.args in
+    let y = c.requires.starts.0 in
+    record { fits = link_fits a.t.now a.at _ _ _ _ _ (in_first a.at _) c.requires.links.0 c.loop-left.invariant.0 c.loop-left-test.true (start_pos _ y) (le_of_lt y.1) c.ranges.n.fits }
 
 pub overflow_mul-b : goal.overflow_mul-b
 overflow_mul-b c =
-    let d = c.before.before in
-    let a = d.args in
-    let y = d.requires.1.1 in
-    record { fits = link_fits a.t.now (a.at + a.step) _ _ _ _ _ (in_second a.at a.step _) d.requires.0.1 d.loop-left.invariant.1 d.loop-left-test.true (start_pos _ y) (le_of_lt y.1) d.ranges.n.fits }
+    let a = c.args in
+    let y = c.requires.starts.1 in
+    record { fits = link_fits a.t.now (a.at + a.step) _ _ _ _ _ (in_second a.at a.step _) c.requires.links.1 c.loop-left.invariant.1 c.loop-left-test.true (start_pos _ y) (le_of_lt y.1) c.ranges.n.fits }
 
 pub overflow_mul-c : goal.overflow_mul-c
 overflow_mul-c c =
-    let d = c.before.before.before in
-    let a = d.args in
-    let y = d.requires.1.2 in
-    record { fits = link_fits a.t.now (a.at + a.step + a.step) _ _ _ _ _ (in_third a.at a.step _) d.requires.0.2 d.loop-left.invariant.2 d.loop-left-test.true (start_pos _ y) (le_of_lt y.1) d.ranges.n.fits }
+    let a = c.args in
+    let y = c.requires.starts.2 in
+    record { fits = link_fits a.t.now (a.at + a.step + a.step) _ _ _ _ _ (in_third a.at a.step _) c.requires.links.2 c.loop-left.invariant.2 c.loop-left-test.true (start_pos _ y) (le_of_lt y.1) c.ranges.n.fits }
 
 pub loop-left-preserved : goal.loop-left-preserved
 loop-left-preserved c =
-    let d = c.before.before.before in
-    let a = d.args in
-    let k = d.requires.0 in (
-      link_on a.t.now a.at _ _ _ _ _ (in_first a.at _) k.0 d.loop-left.invariant.0 d.loop-left-test.true,
-      link_on a.t.now (a.at + a.step) _ _ _ _ _ (in_second a.at a.step _) k.1 d.loop-left.invariant.1 d.loop-left-test.true,
-      link_on a.t.now (a.at + a.step + a.step) _ _ _ _ _ (in_third a.at a.step _) k.2 d.loop-left.invariant.2 d.loop-left-test.true,
+    let a = c.args in
+    let k = c.requires.links in
+    let l = c.loop-left-test.true in (
+      link_on a.t.now a.at _ _ _ _ _ (in_first a.at _) k.0 c.loop-left.invariant.0 l,
+      link_on a.t.now (a.at + a.step) _ _ _ _ _ (in_second a.at a.step _) k.1 c.loop-left.invariant.1 l,
+      link_on a.t.now (a.at + a.step + a.step) _ _ _ _ _ (in_third a.at a.step _) k.2 c.loop-left.invariant.2 l,
     )

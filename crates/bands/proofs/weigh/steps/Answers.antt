@@ -31,3 +31,12 @@ overflow_cast-result c = record { fits = subst (λ (n : ℕ). n < 2 ^ 32) (sym (
 pub returns : goal.returns
 unfolding of_bits
 returns c = c.truncating_f32_to_u64.ensures
+
+pub truncating_f32_to_u64-requires : goal.truncating_f32_to_u64-requires
+truncating_f32_to_u64-requires c =
+    let n = c.requires.n in
+    let v = raised_value c.args.f c.requires (held c) in
+    record {
+      lower_bound = above_minus_one (raised c.args.f) (n * 2 ^ 32) (2 ^ 32) v;
+      upper_bound = below_top (raised c.args.f) (n * 2 ^ 32) (2 ^ 32) (under n c.requires.steps.small) v;
+    }

@@ -31,3 +31,14 @@ returns c =
       weight a.bands.now a.count a.t.now p.1 p.3 1 x.result (x.result * 102 + 34) (lit< tt) a.p x.ensures.0 x.ensures.1 (omega arith) _ c.cut_at-s1.ensures _ r.1,
       weight a.bands.now a.count a.t.now p.1 p.3 2 x.result (x.result * 102 + 34 + 34) (lit< tt) a.p x.ensures.0 x.ensures.1 (omega arith) _ c.cut_at-s2.ensures _ r.2,
     )
+
+pub interpolate_three-requires-clause-at_bound : goal.interpolate_three-requires-clause-at_bound
+interpolate_three-requires-clause-at_bound c =
+    let a = c.args in
+    let p = c.requires in
+    let x = c.index-i in (
+      omega (arith, x.ensures.1, p.1),
+      ratio a.bands.now a.count a.t.now p.1 p.3 0 x.result _ (lit< tt) a.p x.ensures.0 x.ensures.1 (omega arith) _ c.cut_at-s0.ensures,
+      ratio a.bands.now a.count a.t.now p.1 p.3 1 x.result _ (lit< tt) a.p x.ensures.0 x.ensures.1 (omega arith) _ c.cut_at-s1.ensures,
+      ratio a.bands.now a.count a.t.now p.1 p.3 2 x.result _ (lit< tt) a.p x.ensures.0 x.ensures.1 (omega arith) _ c.cut_at-s2.ensures,
+    )
