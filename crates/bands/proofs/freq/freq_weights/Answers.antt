@@ -6,9 +6,6 @@ use Rattle.bands.proofs.Freqs.{corner_weights}
 use Rattle.bands.proofs.Laid.{laid_none, laid_on, laid_all}
 use Rattle.bands.proofs.freq.freq_weights.Goals as goal
 
-pub all_bands-bands-requires : goal.all_bands-bands-requires
-all_bands-bands-requires c = (lit≤ tt, lit≤ tt, c.all_bands-arg-1.given.0)
-
 pub loop-k-init : goal.loop-k-init
 loop-k-init c = (omega arith, laid_none _ _ _ refl)
 
@@ -34,3 +31,6 @@ returns c =
     let b = v.all_bands-bands in
     laid_all (corner_by b.result) 16 c.loop-k.k c.loop-k.all (lit< tt) c.loop-k-test.false c.loop-k.invariant.1
     ∙ corner_weights v.args.numbers.now b.result b.ensures
+
+pub all_bands-bands-requires : goal.all_bands-bands-requires
+all_bands-bands-requires c = (lit≤ tt, lit≤ tt, c.all_bands-arg-1.given)

@@ -8,21 +8,14 @@ use Rattle.bands.proofs.grid.copied.Goals as goal
 use Rattle.bands.proofs.grid.copied.Goals.{In-loop-x}
 
 -- what is known inside the loop
-module _ (d : In-loop-x) where
-  inside : d.args.y < d.args.w
-  inside = subst (λ (n : ℕ). d.args.y < n) (sym d.if-w-h.false) d.requires.2
+inside : (y w h : ℕ) → w ≡ h → y < h → y < w
+inside y w h e Y = subst (λ (n : ℕ). y < n) (sym e) Y
 
-  here : d.loop-x.x < d.args.w
-  here = lt_trans d.loop-x-test.taken inside
-
-  from : d.loop-x.x * d.args.w + d.args.y < d.args.w * d.args.w
-  from = place_in d.loop-x.x d.args.y d.args.w d.args.w inside here
-
-  to : d.args.y * d.args.w + d.loop-x.x < d.args.w * d.args.w
-  to = place_in d.args.y d.loop-x.x d.args.w d.args.w here inside
-
-  small : d.args.w * d.args.w ≤ 65536
-  small = area_le d.args.w d.args.w d.requires.1 d.requires.1
+known : (x y w h : ℕ) → w ≡ h → y < h → x < y → w ≤ 256 → (x * w + y < w * w) × (y * w + x < w * w) × (w * w ≤ 65536)
+known x y w h e Y X W =
+    let v = inside y w h e Y in
+    let u = lt_trans X v in
+    (place_in x y w w v u, place_in y x w w u v, area_le w w W W)
 
 pub returns-then-w-h : goal.returns-then-w-h
 returns-then-w-h c = (zero-le, copied_none _ _ _ c.args.out.now)
@@ -34,59 +27,59 @@ pub loop-x-init : goal.loop-x-init
 loop-x-init c = (zero-le, subst (λ (n : ℕ). length c.args.out.now ≡ 3 * (c.args.w * n)) (sym c.if-w-h.false) c.requires.3, copied_none _ _ _ _)
 
 pub overflow_mul-q : goal.overflow_mul-q
-overflow_mul-q c = omega (arith, from (c), to (c), small (c))
+overflow_mul-q c = omega (arith, known _ _ _ _ c.if-w-h.false c.requires.2 c.loop-x-test.true c.requires.1)
 
 pub overflow_add-q : goal.overflow_add-q
-overflow_add-q c = omega (arith, from (c), to (c), small (c))
+overflow_add-q c = omega (arith, known _ _ _ _ c.if-w-h.false c.requires.2 c.loop-x-test.true c.requires.1)
 
 pub offset_bounds-out-q : goal.offset_bounds-out-q
-offset_bounds-out-q c = omega (arith, from (c), to (c), small (c))
+offset_bounds-out-q c = omega (arith, known _ _ _ _ c.if-w-h.false c.requires.2 c.loop-x-test.true c.requires.1)
 
 pub bounds-out-q : goal.bounds-out-q
-bounds-out-q c = omega (arith, from c.before, to c.before, small c.before, c.loop-x.invariant.1)
+bounds-out-q c = omega (arith, known _ _ _ _ c.if-w-h.false c.requires.2 c.loop-x-test.true c.requires.1, c.loop-x.invariant.1)
 
 pub overflow_add-v1 : goal.overflow_add-v1
-overflow_add-v1 c = omega (arith, from c.before, to c.before, small c.before)
+overflow_add-v1 c = omega (arith, known _ _ _ _ c.if-w-h.false c.requires.2 c.loop-x-test.true c.requires.1)
 
 pub offset_bounds-out-area : goal.offset_bounds-out-area
-offset_bounds-out-area c = omega (arith, from c.before, to c.before, small c.before)
+offset_bounds-out-area c = omega (arith, known _ _ _ _ c.if-w-h.false c.requires.2 c.loop-x-test.true c.requires.1)
 
 pub bounds-out-area : goal.bounds-out-area
-bounds-out-area c = omega (arith, from c.before.before, to c.before.before, small c.before.before, c.loop-x.invariant.1)
+bounds-out-area c = omega (arith, known _ _ _ _ c.if-w-h.false c.requires.2 c.loop-x-test.true c.requires.1, c.loop-x.invariant.1)
 
 pub overflow_add-v2 : goal.overflow_add-v2
-overflow_add-v2 c = omega (arith, from c.before.before, to c.before.before, small c.before.before)
+overflow_add-v2 c = omega (arith, known _ _ _ _ c.if-w-h.false c.requires.2 c.loop-x-test.true c.requires.1)
 
 pub overflow_add-v2-in-loop-x : goal.overflow_add-v2-in-loop-x
-overflow_add-v2-in-loop-x c = omega (arith, from c.before.before, to c.before.before, small c.before.before)
+overflow_add-v2-in-loop-x c = omega (arith, known _ _ _ _ c.if-w-h.false c.requires.2 c.loop-x-test.true c.requires.1)
 
 pub offset_bounds-out-area-in-loop-x : goal.offset_bounds-out-area-in-loop-x
-offset_bounds-out-area-in-loop-x c = omega (arith, from c.before.before, to c.before.before, small c.before.before)
+offset_bounds-out-area-in-loop-x c = omega (arith, known _ _ _ _ c.if-w-h.false c.requires.2 c.loop-x-test.true c.requires.1)
 
 pub bounds-out-area-in-loop-x : goal.bounds-out-area-in-loop-x
-bounds-out-area-in-loop-x c = omega (arith, from c.before.before.before, to c.before.before.before, small c.before.before.before, c.loop-x.invariant.1)
+bounds-out-area-in-loop-x c = omega (arith, known _ _ _ _ c.if-w-h.false c.requires.2 c.loop-x-test.true c.requires.1, c.loop-x.invariant.1)
 
 pub overflow_mul-row : goal.overflow_mul-row
-overflow_mul-row c = omega (arith, from c.before.before.before.before, to c.before.before.before.before, small c.before.before.before.before)
+overflow_mul-row c = omega (arith, known _ _ _ _ c.if-w-h.false c.requires.2 c.loop-x-test.true c.requires.1)
 
 pub overflow_add-row : goal.overflow_add-row
-overflow_add-row c = omega (arith, from c.before.before.before.before, to c.before.before.before.before, small c.before.before.before.before)
+overflow_add-row c = omega (arith, known _ _ _ _ c.if-w-h.false c.requires.2 c.loop-x-test.true c.requires.1)
 
 pub put-requires : goal.put-requires
-put-requires c = (to c.before.before.before.before, c.loop-x.invariant.1, small c.before.before.before.before)
+put-requires c = let k = known _ _ _ _ c.if-w-h.false c.requires.2 c.loop-x-test.true c.requires.1 in (k.1, c.loop-x.invariant.1, k.2)
 
 pub overflow_add-x : goal.overflow_add-x
-overflow_add-x c = omega (arith, to c.before.before.before.before.before.before.before, small c.before.before.before.before.before.before.before)
+overflow_add-x c = omega (arith, known _ _ _ _ c.if-w-h.false c.requires.2 c.loop-x-test.true c.requires.1)
 
 pub loop-x-preserved : goal.loop-x-preserved
 loop-x-preserved c =
-    let d = c.before.before.before.before.before.before.before in
-    let a = d.args in
-    let l = d.loop-x in
-    let e = c.put.ensures in (
-      omega (arith, d.loop-x-test.true),
-      ap length e ∙ put_length l.out (a.w * a.w) (a.y * a.w + l.x) _ _ _ (to d) l.invariant.1,
-      copied_more a.w a.y l.x _ l.out _ d.loop-x-test.true (inside d) a.h d.if-w-h.false e l.invariant.2,
+    let a = c.args in
+    let l = c.loop-x in
+    let e = c.put.ensures in
+    let k = known _ _ _ _ c.if-w-h.false c.requires.2 c.loop-x-test.true c.requires.1 in (
+      omega (arith, c.loop-x-test.true),
+      ap length e ∙ put_length l.out (a.w * a.w) (a.y * a.w + l.x) _ _ _ k.1 l.invariant.1,
+      copied_more a.w a.y l.x _ l.out _ c.loop-x-test.true (inside _ _ _ c.if-w-h.false c.requires.2) a.h c.if-w-h.false e l.invariant.2,
     )
 
 pub shape_of-out : goal.shape_of-out

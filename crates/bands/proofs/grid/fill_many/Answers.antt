@@ -20,16 +20,6 @@ copied-from-requires c = let g = c.requires.0 in (g.wide, g.not_wider, c.loop-y-
 pub positions-s-requires : goal.positions-s-requires
 positions-s-requires c = let p = c.requires in (sized _ _ _ _ p.0 p.1, c.loop-y-test.true)
 
-pub weigh_row-requires : goal.weigh_row-requires
-weigh_row-requires c =
-    let a = c.args in
-    let p = c.requires in
-    let l = c.loop-y in
-    let k = c.copied-from.ensures in (
-      (sized _ _ _ _ p.0 p.1, k.0, c.loop-y-test.true, c.positions-s.ensures),
-      (c.chains-t.ensures, k.1.lays (grid_cell a.bands.now a.count a.w a.h) (mirrored a.bands.now a.count a.w a.h) l.invariant.1),
-    )
-
 pub overflow_add-y : goal.overflow_add-y
 overflow_add-y c = omega (arith, c.loop-y-test.true, c.requires.0.not_higher)
 
@@ -51,3 +41,6 @@ returns c =
     let l = c.loop-y in
     laid_all (grid_cell a.bands.now a.count a.w a.h) (a.w * a.h) (l.y * a.w) l.out
     (area_pos a.w a.h g.wide g.high) (le_trans (le_of_eq (mul_comm a.w a.h)) (mul-le-mul_right a.w c.loop-y-test.false)) l.invariant.1
+
+pub weigh_row-requires-clause-held : goal.weigh_row-requires-clause-held
+weigh_row-requires-clause-held c = let a = c.args in (c.chains-t.ensures, c.copied-from.ensures.1.lays (grid_cell a.bands.now a.count a.w a.h) (mirrored a.bands.now a.count a.w a.h) c.loop-y.invariant.1)

@@ -11,72 +11,40 @@ use Rattle.bands.proofs.grid.weigh_row.Goals as goal
 area_fits : (n w h : ℕ) → Sized n w h → w * h < 2 ^ 64
 area_fits n w h s = lt_of_le_of_lt (area_le w h s.not_wider s.not_higher) (lit< tt)
 
-pub overflow_mul-area : goal.overflow_mul-area
-overflow_mul-area c = record { fits = area_fits c.args.count c.args.w c.args.h c.requires.0.0 }
-
-pub overflow_mul-row : goal.overflow_mul-row
-overflow_mul-row c = record { fits = lt_of_le_of_lt (area_le c.args.y c.args.w (le_trans (le_of_lt c.requires.0.2) c.requires.0.0.not_higher) c.requires.0.0.not_wider) (lit< tt) }
-
 pub top_chain-top-requires : goal.top_chain-top-requires
 top_chain-top-requires c = tt
 
-pub loop-x-init : goal.loop-x-init
-loop-x-init c = let p = c.requires in (le_refl c.args.from, p.0.1, p.1.1)
-
-pub offset_bounds-s-x : goal.offset_bounds-s-x
-offset_bounds-s-x c = omega (arith, c.loop-x-test.true, c.requires.0.0.not_wider)
-
-pub bounds-s-x : goal.bounds-s-x
-bounds-s-x c = omega (arith, c.loop-x-test.true, c.requires.0.0.not_wider)
-
-pub weigh_three-v-requires : goal.weigh_three-v-requires
-weigh_three-v-requires c =
-    let a = c.args in
-    let p = c.requires in
-    let l = c.loop-x in
-    let t : l.x < a.w = c.loop-x-test.true in
-    let g = p.0.0 in
-    (c.top_chain-top.ensures, g.few, subst (Cut a.count) (sym (p.0.3.each l.x l.invariant.0 t)) (place_cut a.count a.w a.h a.y l.x g.many g.few g.wide g.not_wider g.high g.not_higher p.0.2 t), p.1.0)
-
-pub overflow_add-row : goal.overflow_add-row
-overflow_add-row c =
-    let a = c.args in
-    let p = c.requires in
-    record { fits = lt_of_lt_of_le (place_in a.y c.loop-x.x a.w a.h c.loop-x-test.true p.0.2) (le_of_lt (area_fits a.count a.w a.h p.0.0)) }
-
-pub put-requires : goal.put-requires
-put-requires c =
-    let a = c.args in
-    let p = c.requires in
-    let l = c.loop-x in
-    (place_in a.y l.x a.w a.h c.loop-x-test.true p.0.2, l.invariant.2.long, area_le a.w a.h p.0.0.not_wider p.0.0.not_higher)
-
-pub overflow_add-x : goal.overflow_add-x
-overflow_add-x c = omega (arith, c.loop-x-test.true, c.requires.0.0.not_wider)
-
 pub loop-x-smaller : goal.loop-x-smaller
 loop-x-smaller c = omega (arith, c.loop-x-test.true)
-
-pub loop-x-preserved : goal.loop-x-preserved
-loop-x-preserved c =
-    let d = c.before.before.before.before.before.before.before.before in
-    let a = d.args in
-    let p = d.requires in
-    let l = d.loop-x in
-    let t : l.x < a.w = c.loop-x-test.true in
-    let m = p.0.3.each l.x l.invariant.0 t in
-    let v = c.weigh_three-v.ensures in
-    let g = l.invariant.0 in (
-      omega (arith, g),
-      omega (arith, t),
-      laid_next (grid_cell a.bands.now a.count a.w a.h) l.out _ (a.w * a.h) (a.y * a.w + l.x) _ _ _ _ (add_assoc (a.y * a.w) l.x 1) (place_in a.y l.x a.w a.h t p.0.2) l.invariant.2 c.put.ensures
-          (row_cell a.y l.x a.w a.h t p.0.2 (band_in a.bands.now 0) a.count _ _ p.0.0.many m v.0)
-          (row_cell a.y l.x a.w a.h t p.0.2 (band_in a.bands.now 1) a.count _ _ p.0.0.many m v.1)
-          (row_cell a.y l.x a.w a.h t p.0.2 (band_in a.bands.now 2) a.count _ _ p.0.0.many m v.2),
-    )
 
 pub returns : goal.returns
 returns c =
     let a = c.args in
     let l = c.loop-x in
     subst (λ (x : ℕ). Laid (grid_cell a.bands.now a.count a.w a.h) (a.w * a.h) (a.y * a.w + x) l.out) (le_antisymm l.invariant.1 c.loop-x-test.false) l.invariant.2
+
+pub weigh_three-v-requires : goal.weigh_three-v-requires
+weigh_three-v-requires c =
+    let a = c.args in
+    let p = c.requires.sized in
+    let l = c.loop-x in
+    let t : l.x < a.w = c.loop-x-test.true in
+    let g = p.0 in
+    (c.top_chain-top.ensures, g.few, subst (Cut a.count) (sym (p.3.each l.x l.invariant.0 t)) (place_cut a.count a.w a.h a.y l.x g.many g.few g.wide g.not_wider g.high g.not_higher p.2 t), c.requires.held.0)
+
+pub loop-x-preserved : goal.loop-x-preserved
+loop-x-preserved c =
+    let a = c.args in
+    let p = c.requires.sized in
+    let l = c.loop-x in
+    let t : l.x < a.w = c.loop-x-test.true in
+    let m = p.3.each l.x l.invariant.0 t in
+    let v = c.weigh_three-v.ensures in
+    let g = l.invariant.0 in (
+      omega (arith, g),
+      omega (arith, t),
+      laid_next (grid_cell a.bands.now a.count a.w a.h) l.out _ (a.w * a.h) (a.y * a.w + l.x) _ _ _ _ (add_assoc (a.y * a.w) l.x 1) (place_in a.y l.x a.w a.h t p.2) l.invariant.2 c.put.ensures
+          (row_cell a.y l.x a.w a.h t p.2 (band_in a.bands.now 0) a.count _ _ p.0.many m v.0)
+          (row_cell a.y l.x a.w a.h t p.2 (band_in a.bands.now 1) a.count _ _ p.0.many m v.1)
+          (row_cell a.y l.x a.w a.h t p.2 (band_in a.bands.now 2) a.count _ _ p.0.many m v.2),
+    )

@@ -20,9 +20,6 @@ loop-i-init c = passing_none _ _ _
 pub over-requires : goal.over-requires
 over-requires c = small c
 
-pub digit-requires : goal.digit-requires
-digit-requires c = small c.before.before
-
 pub loop-i-preserved : goal.loop-i-preserved
 loop-i-preserved c =
     let m = c.before.before.before.before.before.before.before in
@@ -32,3 +29,6 @@ loop-i-preserved c =
 
 pub returns : goal.returns
 returns c = passing_all _ _ _ _ _ _ _ c.loop-i-test.false c.loop-i.invariant
+
+pub digit-requires : goal.digit-requires
+digit-requires c = lane_small _ _ _ _ _ c.requires.more (passing_lane _ _ _ _ _ _ _ c.loop-i-test.true c.requires c.loop-i.invariant)

@@ -30,9 +30,6 @@ module _ (c : After-chain-roots) where
 begins : (c : After-row) → Starts c.row.result
 begins c = let d = c.before.before.before.before in row_starts _ _ _ (low d) (high d) d.ranges.n.fits c.row.ensures
 
-pub row-requires : goal.row-requires
-row-requires c = let d = c.before.before.before in (links d, (lit< tt, lit≤ tt, d.ranges.n.fits))
-
 pub second-requires : goal.second-requires
 second-requires c = let d = c.before.before.before.before in (c.top_chain-top.ensures, few d, d.ranges.n.fits, begins c)
 
@@ -50,3 +47,6 @@ returns c =
     c.finish.ensures
     ∙ ap (λ (y : ℕ). finished e a.n y) (c.second.ensures ∙ ap (second_row e a.n) c.row.ensures)
     ∙ power_is a.q (held d.before.before) _ e a.n (start d) d.start_of-s.ensures.0
+
+pub row-requires-clause-chain : goal.row-requires-clause-chain
+row-requires-clause-chain c = links c.before.before.before

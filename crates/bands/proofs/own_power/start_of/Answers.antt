@@ -27,12 +27,6 @@ returns-then-q c = let q = c.args.q in none q (nan_not q (differs_from_itself q 
 pub float_to_bits-bits : goal.float_to_bits-bits
 float_to_bits-bits c = same_is_number c.args.q c.if-q.false
 
-pub returns-then-bits-eq0 : goal.returns-then-bits-eq0
-returns-then-bits-eq0 c =
-    let q = c.args.q in
-    let f = held c.before.before in
-    none q (⊎_elim (λ w. zero_not q f w.taken) (λ w. high_not q f (leb-true 0x7f80_0000 (to_bits binary32 q) w.1.taken)) c.then-bits-eq0.branch)
-
 -- the bits of a q that has a power
 module _ (c : Else-bits-ge2139095040) where
   abbrev b : ℕ
@@ -42,7 +36,7 @@ module _ (c : Else-bits-ge2139095040) where
   some_bits = omega (arith, c.if-bits-eq0.false)
 
   few_bits : b < 255 * 2 ^ 23
-  few_bits = leb-false 0x7f80_0000 b c.if-bits-ge2139095040.false
+  few_bits = c.if-bits-ge2139095040.false
 
   zeros_few : count_leading_zeros 32 b < 32
   zeros_few = (top_of b some_bits (lt_of_lt_of_le few_bits (lit≤ tt))).few
@@ -64,3 +58,9 @@ overflow_cast-result-2 c = omega (arith, few_bits c.before)
 
 pub returns : goal.returns
 returns c = some _ _ _ (normal_is _ (held c.before.before.before.before) c.if-bits-lt8388608.false (few_bits c.before))
+
+pub returns-then-bits-eq0 : goal.returns-then-bits-eq0
+returns-then-bits-eq0 c =
+    let q = c.args.q in
+    let f = subst T (sym c.well_formed.0.1) tt in
+    none q (⊎_elim (λ w. zero_not q f w) (λ w. high_not q f w.1) c.then-bits-eq0.either)

@@ -4,25 +4,36 @@ use Rattle.bands.proofs.LentLaws.{undo, lent_is_grid, lent_numbers_are}
 use Rattle.bands.proofs.QuantLaws.{answer_lent, answer_right, leaves_as, all_done, all_zero_lem}
 use Rattle.bands.proofs.quant.dct_quant_weights.Goals as goal
 
-pub returns-then-not-lent_right : goal.returns-then-not-lent_right
-returns-then-not-lent_right c = let a = c.args in let e = sym c.lent_right.ensures ∙ undo c.lent_right.result true c.if-not-lent_right.true in (answer_lent a.numbers.now a.count a.width a.height a.out.now e, leaves_as a.numbers.now a.count a.width a.height a.out.now _ (answer_lent a.numbers.now a.count a.width a.height a.out.now e))
-
 pub band_answer-answer-requires : goal.band_answer-answer-requires
-band_answer-answer-requires c = let a = c.args in let e = sym c.lent_right.ensures ∙ undo c.lent_right.result false c.if-not-lent_right.false in ((lent_is_grid (length a.numbers.now) a.count a.width a.height (length a.out.now) e).few, lent_numbers_are (length a.numbers.now) a.count a.width a.height (length a.out.now) e)
+band_answer-answer-requires c = let a = c.args in let e = sym c.lent_right.ensures ∙ c.if-not-lent_right.false in ((lent_is_grid (length a.numbers.now) a.count a.width a.height (length a.out.now) e).few, lent_numbers_are (length a.numbers.now) a.count a.width a.height (length a.out.now) e)
 
 pub weigh_all-requires : goal.weigh_all-requires
-weigh_all-requires c = let a = c.args in let e = sym c.lent_right.ensures ∙ undo c.lent_right.result false c.if-not-lent_right.false in (lent_numbers_are (length a.numbers.now) a.count a.width a.height (length a.out.now) e, lent_is_grid (length a.numbers.now) a.count a.width a.height (length a.out.now) e)
+weigh_all-requires c = let a = c.args in let e = sym c.lent_right.ensures ∙ c.if-not-lent_right.false in (lent_numbers_are (length a.numbers.now) a.count a.width a.height (length a.out.now) e, lent_is_grid (length a.numbers.now) a.count a.width a.height (length a.out.now) e)
+
+pub returns-then-not-lent_right : goal.returns-then-not-lent_right
+returns-then-not-lent_right c =
+    let a = c.args in
+    let e = answer_lent a.numbers.now a.count a.width a.height a.out.now (sym c.lent_right.ensures ∙ c.if-not-lent_right.true) in
+    record { answer = e; left = leaves_as a.numbers.now a.count a.width a.height a.out.now _ e }
 
 pub returns-then-is_done : goal.returns-then-is_done
-returns-then-is_done c = let a = c.args in
-    let e = sym c.lent_right.ensures ∙ undo c.lent_right.result false c.if-not-lent_right.false in
+returns-then-is_done c =
+    let a = c.args in
+    let e = sym c.lent_right.ensures ∙ c.if-not-lent_right.false in
     let b = c.band_answer-answer in
     let d = sym c.is_done.ensures ∙ c.if-is_done.true in
-    (b.ensures ∙ answer_right a.numbers.now a.count a.width a.height a.out.now e, c.weigh_all.ensures ∙ all_done a.numbers.now a.count a.width a.height a.out.now b.result b.ensures e d)
+    record {
+      answer = b.ensures ∙ answer_right a.numbers.now a.count a.width a.height a.out.now e;
+      left = c.weigh_all.ensures ∙ all_done a.numbers.now a.count a.width a.height a.out.now b.result b.ensures e d;
+    }
 
 pub returns : goal.returns
-returns c = let a = c.args in
-    let e = sym c.lent_right.ensures ∙ undo c.lent_right.result false c.if-not-lent_right.false in
+returns c =
+    let a = c.args in
+    let e = sym c.lent_right.ensures ∙ c.if-not-lent_right.false in
     let b = c.band_answer-answer in
     let d = sym c.is_done.ensures ∙ c.if-is_done.false in
-    (b.ensures ∙ answer_right a.numbers.now a.count a.width a.height a.out.now e, c.clear.ensures ∙ all_zero_lem a.numbers.now a.count a.width a.height a.out.now b.result b.ensures e d)
+    record {
+      answer = b.ensures ∙ answer_right a.numbers.now a.count a.width a.height a.out.now e;
+      left = c.clear.ensures ∙ all_zero_lem a.numbers.now a.count a.width a.height a.out.now b.result b.ensures e d;
+    }

@@ -14,21 +14,21 @@ pub returns-then-numbers-count : goal.returns-then-numbers-count
 returns-then-numbers-count c = let a = c.args in lent_numbers a.numbers a.count a.w a.h a.places c.if-count-lt1.false c.if-count-gt16.false c.if-numbers-count.true
 
 pub returns-then-not-on_grid : goal.returns-then-not-on_grid
-returns-then-not-on_grid c = let a = c.args in lent_grid a.numbers a.count a.w a.h a.places c.if-count-lt1.false c.if-count-gt16.false c.if-numbers-count.false (sym c.on_grid.ensures ∙ undo c.on_grid.result true c.if-not-on_grid.true)
+returns-then-not-on_grid c = let a = c.args in lent_grid a.numbers a.count a.w a.h a.places c.if-count-lt1.false c.if-count-gt16.false c.if-numbers-count.false (sym c.on_grid.ensures ∙ c.if-not-on_grid.true)
 
 pub overflow_mul-result : goal.overflow_mul-result
 overflow_mul-result c =
     let a = c.args in
-    let s = grid_sides a.w a.h (sym c.on_grid.ensures ∙ undo c.on_grid.result false c.if-not-on_grid.false) in
+    let s = grid_sides a.w a.h (sym c.on_grid.ensures ∙ c.if-not-on_grid.false) in
     let m = area_le a.w a.h s.not_wider s.not_higher in
     record { fits = omega arith }
 
 pub overflow_mul-result-2 : goal.overflow_mul-result-2
 overflow_mul-result-2 c =
     let a = c.args in
-    let s = grid_sides a.w a.h (sym c.on_grid.ensures ∙ undo c.on_grid.result false c.if-not-on_grid.false) in
+    let s = grid_sides a.w a.h (sym c.on_grid.ensures ∙ c.if-not-on_grid.false) in
     let m = area_le a.w a.h s.not_wider s.not_higher in
     record { fits = omega arith }
 
 pub returns : goal.returns
-returns c = let a = c.args in lent_last a.numbers a.count a.w a.h a.places c.if-count-lt1.false c.if-count-gt16.false c.if-numbers-count.false (sym c.on_grid.ensures ∙ undo c.on_grid.result false c.if-not-on_grid.false)
+returns c = let a = c.args in lent_last a.numbers a.count a.w a.h a.places c.if-count-lt1.false c.if-count-gt16.false c.if-numbers-count.false (sym c.on_grid.ensures ∙ c.if-not-on_grid.false)

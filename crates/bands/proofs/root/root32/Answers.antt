@@ -1,5 +1,5 @@
 -- `root32` is `root_of`: by the bits of x. Assumes nothing.
-use Rattle.std.proofs.Common.{◌≡◌, ℕ, ◌%◌, ◌^◌, ◌<◌, ◌≤◌, Bool, not, T, ◌⊎◌, sym, ap, ◌∙◌, subst, inl, inr, arith, le-ltb}
+use Rattle.std.proofs.Common.{rules, ◌≡◌, ℕ, ◌%◌, ◌^◌, ◌<◌, ◌≤◌, Bool, not, T, ◌⊎◌, sym, ap, ◌∙◌, subst, inl, inr, arith, le-ltb}
 use lib.Ieee.{Float, nan, binary32, fits, nan_bits, to_bits}
 use lib.Ieee.Bits.{of_bits-to_bits, to_bits-lt, nan_bits_above}
 use lib.Ieee.Compare.{differs_from_itself}
@@ -17,12 +17,6 @@ nan_root x e = e ∙ sym root_nan ∙ ap root_of (sym e)
 no_nan_bits : (r : ℕ) → r < 0x7f80_0000 → T (not (nan_bits binary32 r))
 no_nan_bits r h = subst (λ (b : Bool). T (not b)) (sym (nan_bits_above binary32 r ∙ le-ltb 0x7f80_0000 (r % 2 ^ 31) (omega arith))) tt
 
-kept_away : (b : ℕ) → ((b ≡ 0) ⊎ ((b ≡ 0x7f80_0000) ⊎ (b ≡ 0x8000_0000)) → ⊥) → b ≤ 0x7f80_0000 → (0 < b) × (b < 0x7f80_0000)
-kept_away b n h =
-    let zero : b ≡ 0 → ⊥ = λ e. n (inl e) in
-    let top : b ≡ 0x7f80_0000 → ⊥ = λ e. n (inr (inl e)) in
-    (omega arith, omega arith)
-
 -- ---- the needs
 held : (c : Start) → T (fits binary32 c.args.x)
 held c = subst T (sym c.well_formed.0.1) tt
@@ -33,24 +27,22 @@ returns-then-x c = nan_root c.args.x (differs_from_itself c.args.x (subst T (sym
 pub float_to_bits-b : goal.float_to_bits-b
 float_to_bits-b c = same_is_number c.args.x c.if-x.false
 
-pub root_bits-requires : goal.root_bits-requires
-root_bits-requires c = kept_away (to_bits binary32 c.args.x) c.in_default.rest.1 c.if-b-gt2139095040.false
-
 pub float_from_bits-result : goal.float_from_bits-result
 float_from_bits-result c = no_nan_bits c.root_bits.result c.root_bits.ensures.1
+
+pub returns-else-b-gt2139095040 : goal.returns-else-b-gt2139095040
+returns-else-b-gt2139095040 c =
+    c.root_bits.ensures.0 ∙ ap root_of (of_bits-to_bits binary32 c.args.x (held c.before.before.before.before))
 
 pub returns-in-0 : goal.returns-in-0
 returns-in-0 c =
     let x = c.args.x in
     let back = of_bits-to_bits binary32 x (held c.before.before) in
-    sym back ∙ own_root (to_bits binary32 x) c.in-0.keys1 ∙ ap root_of back
+    sym back ∙ own_root (to_bits binary32 x) c.in-0.is ∙ ap root_of back
 
 pub returns-then-b-gt2139095040 : goal.returns-then-b-gt2139095040
 returns-then-b-gt2139095040 c =
     let x = c.args.x in
     let fit = held c.before.before.before in
-    no_quotient ∙ sym (root_none (to_bits binary32 x) (to_bits-lt binary32 x fit) c.if-b-gt2139095040.true (λ e. c.in_default.rest.1 (inr (inr e)))) ∙ ap root_of (of_bits-to_bits binary32 x fit)
-
-pub returns-else-b-gt2139095040 : goal.returns-else-b-gt2139095040
-returns-else-b-gt2139095040 c =
-    c.root_bits.ensures.0 ∙ ap root_of (of_bits-to_bits binary32 c.args.x (held c.before.before.before.before))
+    let no : to_bits binary32 x ≡ 0x8000_0000 → ⊥ = search rules in
+    no_quotient ∙ sym (root_none (to_bits binary32 x) (to_bits-lt binary32 x fit) c.if-b-gt2139095040.true no) ∙ ap root_of (of_bits-to_bits binary32 x fit)

@@ -32,16 +32,12 @@ put_chains-requires c =
     let v = c.eight-in-loop-p.ensures in
     (eight_rooms _ _ _ _ _ _ _ _ _ (inside m) t a v, eight_near _ _ _ _ _ _ _ _ _ (inside m) t a v, eight_alike _ _ _ _ _ _ _ _ _ (inside m) t a v, m.loop-p.invariant.long)
 
-pub overflow_add-p : goal.overflow_add-p
-overflow_add-p c = omega (arith, inside c.before.before.before.before.before.before)
-
 pub loop-p-smaller : goal.loop-p-smaller
 loop-p-smaller c = omega (arith, c.loop-p-test.true)
 
-pub loop-p-preserved : goal.loop-p-preserved
-loop-p-preserved c =
-    let m = c.before.before.before.before.before.before in
-    holding_more _ _ _ _ _ _ m.put_starts-waiting.ensures _ _ _ _ _ (inside m) c.eight.ensures c.eight-in-loop-p.ensures c.put_chains.ensures m.loop-p.invariant
-
 pub returns : goal.returns
 returns c = let a = c.before.before.before.before in holding_all _ _ _ _ _ _ a.put_starts-waiting.ensures _ _ a.requires c.loop-p-test.false c.loop-p.invariant
+
+pub loop-p-preserved : goal.loop-p-preserved
+loop-p-preserved c =
+    holding_more _ _ _ _ _ _ c.put_starts-waiting.ensures _ _ _ _ _ (holding_inside _ _ _ _ _ _ c.put_starts-waiting.ensures _ _ c.loop-p-test.true c.loop-p.invariant) c.eight.ensures c.eight-in-loop-p.ensures c.put_chains.ensures c.loop-p.invariant

@@ -4,15 +4,6 @@ use Rattle.bands.specs.Views.{finished}
 use Rattle.bands.proofs.PowerLaws.{second_range}
 use Rattle.bands.proofs.three.finish_three.Goals as goal
 
-pub finish-requires : goal.finish-requires
-finish-requires c = let p = c.requires in let z = second_range _ _ _ _ p.1.0 c.seconds-y.ensures.0 in (p.0.1, p.0.4, z.0, z.1)
-
-pub finish-requires-2 : goal.finish-requires-2
-finish-requires-2 c = let p = c.requires in let z = second_range _ _ _ _ p.1.1 c.seconds-y.ensures.1 in (p.0.2, p.0.4, z.0, z.1)
-
-pub finish-requires-3 : goal.finish-requires-3
-finish-requires-3 c = let p = c.requires in let z = second_range _ _ _ _ p.1.2 c.seconds-y.ensures.2 in (p.0.3, p.0.4, z.0, z.1)
-
 pub returns : goal.returns
 returns c =
     let a = c.args in
@@ -21,3 +12,12 @@ returns c =
       c.finish-2.ensures ∙ ap (λ (y : ℕ). finished a.e1 a.n y) s.1,
       c.finish-3.ensures ∙ ap (λ (y : ℕ). finished a.e2 a.n y) s.2,
     )
+
+pub finish-requires : goal.finish-requires
+finish-requires c = let p = c.requires in let z = second_range _ _ _ _ p.starts.0 c.seconds-y.ensures.0 in (p.top_value.1, p.top_value.4, z.0, z.1)
+
+pub finish-requires-2 : goal.finish-requires-2
+finish-requires-2 c = let p = c.requires in let z = second_range _ _ _ _ p.starts.1 c.seconds-y.ensures.1 in (p.top_value.2, p.top_value.4, z.0, z.1)
+
+pub finish-requires-3 : goal.finish-requires-3
+finish-requires-3 c = let p = c.requires in let z = second_range _ _ _ _ p.starts.2 c.seconds-y.ensures.2 in (p.top_value.3, p.top_value.4, z.0, z.1)

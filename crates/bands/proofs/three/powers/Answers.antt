@@ -14,25 +14,6 @@ third_chain at = omega arith
 ones : Starts 1073741824
 ones = (le_refl 1073741824, lit< tt)
 
-pub rows-y-requires : goal.rows-y-requires
-rows-y-requires c =
-    let t = c.args.t.now in
-    let at = c.args.at in
-    let p = c.requires in
-    ((ready_links t at _ p.2 refl, ready_links t (at + 34) _ p.3 (second_chain at), ready_links t (at + 34 + 34) _ p.4 (third_chain at)), (ones, ones, ones))
-
-pub finish_three-requires : goal.finish_three-requires
-finish_three-requires c =
-    let d = c.before.before.before.before.before in
-    let t = d.args.t.now in
-    let at = d.args.at in
-    let p = d.requires in
-    let N = d.ranges.n.fits in
-    let r = c.rows-y.ensures in (
-      (p.0, p.2.few, p.3.few, p.4.few, N),
-      (ready_starts t at _ p.2 refl _ _ N r.0, ready_starts t (at + 34) _ p.3 (second_chain at) _ _ N r.1, ready_starts t (at + 34 + 34) _ p.4 (third_chain at) _ _ N r.2),
-    )
-
 pub returns : goal.returns
 returns c =
     let d = c.before.before.before.before.before.before in
@@ -42,3 +23,12 @@ returns c =
     let r = c.rows-y.ensures in
     let f = c.finish_three.ensures in
     (ready_power t at _ p.2 refl _ _ _ r.0 f.0, ready_power t (at + 34) _ p.3 (second_chain at) _ _ _ r.1 f.1, ready_power t (at + 34 + 34) _ p.4 (third_chain at) _ _ _ r.2 f.2)
+
+pub finish_three-requires-clause-starts : goal.finish_three-requires-clause-starts
+finish_three-requires-clause-starts c =
+    let t = c.args.t.now in
+    let at = c.args.at in
+    let p = c.requires in
+    let N = c.ranges.n.fits in
+    let r = c.rows-y.ensures in
+    (ready_starts t at _ p.2 refl _ _ N r.0, ready_starts t (at + 34) _ p.3 (second_chain at) _ _ N r.1, ready_starts t (at + 34 + 34) _ p.4 (third_chain at) _ _ N r.2)

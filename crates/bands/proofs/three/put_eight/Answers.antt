@@ -13,24 +13,5 @@ inside m =
 pub loop-i-init : goal.loop-i-init
 loop-i-init c = scattering_none _ _ _ _
 
-pub overflow_cast-all : goal.overflow_cast-all
-overflow_cast-all c = omega (arith, inside c.before.before.before)
-
-pub overflow_add-all : goal.overflow_add-all
-overflow_add-all c = omega (arith, inside c.before.before.before)
-
-pub offset_bounds-all-at : goal.offset_bounds-all-at
-offset_bounds-all-at c = omega (arith, inside c.before.before.before)
-
-pub bounds-all-at : goal.bounds-all-at
-bounds-all-at c = inside c.before.before.before
-
-pub loop-i-preserved : goal.loop-i-preserved
-loop-i-preserved c =
-    let w = c.before in
-    let m = w.before.before in
-    let l = m.loop-i in
-    scattering_more _ _ _ _ _ _ _ m.loop-i-test.true (lt_of_lt_of_le (inside m) (le_of_eq (sym (l.invariant.long ∙ m.requires.2)))) w.wide.ensures l.invariant
-
 pub returns : goal.returns
 returns c = scattering_all _ _ _ _ _ _ c.loop-i-test.false c.loop-i.invariant

@@ -41,36 +41,6 @@ overflow_mul-all c = omega (arith, inside c.before.before.before)
 pub offset_bounds-all-p : goal.offset_bounds-all-p
 offset_bounds-all-p c = omega (arith, inside c.before.before.before)
 
-pub bounds-all-p : goal.bounds-all-p
-bounds-all-p c = omega (arith, inside c.before.before.before)
-
-pub overflow_mul-at : goal.overflow_mul-at
-overflow_mul-at c = omega (arith, inside c.before.before.before)
-
-pub overflow_cast-at : goal.overflow_cast-at
-overflow_cast-at c = omega (arith, inside c.before.before.before)
-
-pub offset_bounds-at-n : goal.offset_bounds-at-n
-offset_bounds-at-n c = omega (arith, inside c.before.before.before)
-
-pub bounds-at-n : goal.bounds-at-n
-bounds-at-n c = omega (arith, inside c.before.before.before)
-
-pub offset_bounds-s-n : goal.offset_bounds-s-n
-offset_bounds-s-n c = omega (arith, inside c.before.before.before)
-
-pub bounds-s-n : goal.bounds-s-n
-bounds-s-n c = omega (arith, inside c.before.before.before)
-
-pub counted-n-requires : goal.counted-n-requires
-counted-n-requires c = omega (arith, inside c.before.before.before)
-
-pub across-band-requires : goal.across-band-requires
-across-band-requires c = omega (arith, inside c.before.before.before.before)
-
-pub overflow_add-p-in-loop-p : goal.overflow_add-p-in-loop-p
-overflow_add-p-in-loop-p c = omega (arith, inside c.before.before.before.before.before)
-
 pub loop-p-smaller : goal.loop-p-smaller
 loop-p-smaller c = omega (arith, c.loop-p-test.true)
 

@@ -26,74 +26,8 @@ in_first at j = omega arith
 pub loop-left-init : goal.loop-left-init
 loop-left-init c = let N = c.ranges.n.fits in (left_all _ _ _ N, left_all _ _ _ N, left_all _ _ _ N)
 
-pub overflow_add-k : goal.overflow_add-k
-overflow_add-k c = let d = c in omega (arith, few d, d.before.before.requires.0.0.inside, d.before.before.well-formed.0)
-
 pub overflow_cast-k : goal.overflow_cast-k
 overflow_cast-k c = omega (arith, few c)
-
-pub overflow_add-k-in-loop-left : goal.overflow_add-k-in-loop-left
-overflow_add-k-in-loop-left c = let d = c in omega (arith, few d, d.before.before.requires.0.0.inside, d.before.before.well-formed.0)
-
-pub offset_bounds-t-k : goal.offset_bounds-t-k
-offset_bounds-t-k c = let d = c in omega (arith, few d, d.before.before.requires.0.0.inside, d.before.before.well-formed.0)
-
-pub bounds-t-k : goal.bounds-t-k
-bounds-t-k c =
-    let d = c.before in
-    let a = d.args in
-    link_inside a.t.now a.at _ _ _ _ _ (in_first a.at _) d.requires.0.0 d.loop-left.invariant.0 d.loop-left-test.true
-
-pub overflow_mul-a : goal.overflow_mul-a
-overflow_mul-a c =
-    let d = c.before in
-    let a = d.args in
-    let y = d.requires.1.0 in
-    record { fits = link_fits a.t.now a.at _ _ _ _ _ (in_first a.at _) d.requires.0.0 d.loop-left.invariant.0 d.loop-left-test.true (start_pos _ y) (le_of_lt y.1) d.ranges.n.fits }
-
-pub overflow_add-b : goal.overflow_add-b
-overflow_add-b c = let d = c.before in omega (arith, few d, d.requires.0.1.inside, d.well_formed.0)
-
-pub offset_bounds-t-k-in-loop-left : goal.offset_bounds-t-k-in-loop-left
-offset_bounds-t-k-in-loop-left c = let d = c.before in omega (arith, few d, d.requires.0.1.inside, d.well_formed.0)
-
-pub bounds-t-k-in-loop-left : goal.bounds-t-k-in-loop-left
-bounds-t-k-in-loop-left c =
-    let d = c.before.before in
-    let a = d.args in
-    link_inside a.t.now (a.at + a.step) _ _ _ _ _ (in_second a.at a.step _) d.requires.0.1 d.loop-left.invariant.1 d.loop-left-test.true
-
-pub overflow_mul-b : goal.overflow_mul-b
-overflow_mul-b c =
-    let d = c.before.before in
-    let a = d.args in
-    let y = d.requires.1.1 in
-    record { fits = link_fits a.t.now (a.at + a.step) _ _ _ _ _ (in_second a.at a.step _) d.requires.0.1 d.loop-left.invariant.1 d.loop-left-test.true (start_pos _ y) (le_of_lt y.1) d.ranges.n.fits }
-
-pub overflow_add-c : goal.overflow_add-c
-overflow_add-c c = let d = c.before.before in omega (arith, few d, d.requires.0.2.inside, d.well_formed.0)
-
-pub overflow_add-c-in-loop-left : goal.overflow_add-c-in-loop-left
-overflow_add-c-in-loop-left c = let d = c.before.before in omega (arith, few d, d.requires.0.2.inside, d.well_formed.0)
-
-pub offset_bounds-t-k-in-loop-left-2 : goal.offset_bounds-t-k-in-loop-left-2
-offset_bounds-t-k-in-loop-left-2 c = let d = c.before.before in omega (arith, few d, d.requires.0.2.inside, d.well_formed.0)
-
-pub bounds-t-k-in-loop-left-2 : goal.bounds-t-k-in-loop-left-2
-bounds-t-k-in-loop-left-2 c =
-    let d = c.before.before.before in
-    let a = d.args in
-    link_inside a.t.now (a.at + a.step + a.step) _ _ _ _ _ (in_third a.at a.step _) d.requires.0.2 d.loop-left.invariant.2 d.loop-left-test.true
-
-pub overflow_mul-c : goal.overflow_mul-c
-overflow_mul-c c =
-    let d = c.before.before.before in
-    let a = d.args in
-    let y = d.requires.1.2 in
-    record { fits = link_fits a.t.now (a.at + a.step + a.step) _ _ _ _ _ (in_third a.at a.step _) d.requires.0.2 d.loop-left.invariant.2 d.loop-left-test.true (start_pos _ y) (le_of_lt y.1) d.ranges.n.fits }
-
-pub overflow_sub-left : goal.overflow_sub-left
-overflow_sub-left c = omega (arith, few c.before.before.before)
 
 pub nonzero_rem-left : goal.nonzero_rem-left
 nonzero_rem-left c = unit_pos (count_leading_zeros 32 c.loop-left.left)
@@ -101,15 +35,33 @@ nonzero_rem-left c = unit_pos (count_leading_zeros 32 c.loop-left.left)
 pub loop-left-smaller : goal.loop-left-smaller
 loop-left-smaller c = left_less _ _ _ _ _ c.loop-left.invariant.0 c.loop-left-test.true
 
-pub loop-left-preserved : goal.loop-left-preserved
-loop-left-preserved c =
-    let d = c.before.before.before in
-    let a = d.args in
-    let k = d.requires.0 in (
-      link_on a.t.now a.at _ _ _ _ _ (in_first a.at _) k.0 d.loop-left.invariant.0 d.loop-left-test.true,
-      link_on a.t.now (a.at + a.step) _ _ _ _ _ (in_second a.at a.step _) k.1 d.loop-left.invariant.1 d.loop-left-test.true,
-      link_on a.t.now (a.at + a.step + a.step) _ _ _ _ _ (in_third a.at a.step _) k.2 d.loop-left.invariant.2 d.loop-left-test.true,
-    )
-
 pub returns : goal.returns
 returns c = let l = c.loop-left-test.false in let i = c.loop-left.invariant in (left_none _ _ _ _ _ l i.0, left_none _ _ _ _ _ l i.1, left_none _ _ _ _ _ l i.2)
+
+pub overflow_mul-a : goal.overflow_mul-a
+overflow_mul-a c =
+    let a = c.args in
+    let y = c.requires.starts.0 in
+    record { fits = link_fits a.t.now a.at _ _ _ _ _ (in_first a.at _) c.requires.links.0 c.loop-left.invariant.0 c.loop-left-test.true (start_pos _ y) (le_of_lt y.1) c.ranges.n.fits }
+
+pub overflow_mul-b : goal.overflow_mul-b
+overflow_mul-b c =
+    let a = c.args in
+    let y = c.requires.starts.1 in
+    record { fits = link_fits a.t.now (a.at + a.step) _ _ _ _ _ (in_second a.at a.step _) c.requires.links.1 c.loop-left.invariant.1 c.loop-left-test.true (start_pos _ y) (le_of_lt y.1) c.ranges.n.fits }
+
+pub overflow_mul-c : goal.overflow_mul-c
+overflow_mul-c c =
+    let a = c.args in
+    let y = c.requires.starts.2 in
+    record { fits = link_fits a.t.now (a.at + a.step + a.step) _ _ _ _ _ (in_third a.at a.step _) c.requires.links.2 c.loop-left.invariant.2 c.loop-left-test.true (start_pos _ y) (le_of_lt y.1) c.ranges.n.fits }
+
+pub loop-left-preserved : goal.loop-left-preserved
+loop-left-preserved c =
+    let a = c.args in
+    let k = c.requires.links in
+    let l = c.loop-left-test.true in (
+      link_on a.t.now a.at _ _ _ _ _ (in_first a.at _) k.0 c.loop-left.invariant.0 l,
+      link_on a.t.now (a.at + a.step) _ _ _ _ _ (in_second a.at a.step _) k.1 c.loop-left.invariant.1 l,
+      link_on a.t.now (a.at + a.step + a.step) _ _ _ _ _ (in_third a.at a.step _) k.2 c.loop-left.invariant.2 l,
+    )

@@ -5,16 +5,10 @@ use Rattle.bands.proofs.PowerLaws.{second_is}
 use Rattle.bands.proofs.Tables.{top_links}
 use Rattle.bands.proofs.three.seconds.Goals as goal
 
-pub rows-requires : goal.rows-requires
-rows-requires c =
-    let s = c.before.before.before.before in
-    let l = top_links s.args.top.now s.requires.0.0 in
-    ((l, l, l), s.requires.1)
-
 pub returns-then-e1-e2 : goal.returns-then-e1-e2
 returns-then-e1-e2 c =
     let a = c.args in
-    let k = c.requires.0.0 in
+    let k = c.requires.top_value.0 in
     let t = c.turned.ensures in
     let x = c.if-e0-e1.true in
     let y = c.if-e1-e2.true in
@@ -23,3 +17,6 @@ returns-then-e1-e2 c =
       second_is a.top.now a.e1 a.n _ _ _ k (t ∙ ap (λ (e : ℕ). turns e a.n) x) r.1,
       second_is a.top.now a.e2 a.n _ _ _ k (t ∙ ap (λ (e : ℕ). turns e a.n) (x ∙ y)) r.2,
     )
+
+pub rows-requires-clause-links : goal.rows-requires-clause-links
+rows-requires-clause-links c = let l = top_links c.args.top.now c.requires.top_value.0 in (l, l, l)

@@ -20,15 +20,15 @@ weight l at n s f v k N F e = ap (mul binary32 s.a) (e ∙ holds_power l at (div
 pub powers-p-requires : goal.powers-p-requires
 powers-p-requires c =
     let a = c.args in
-    let k = c.requires.1 in
-    (c.requires.0.0, k.0, ready a.t.now a.at a.s0 k.1, ready a.t.now (a.at + 34) a.s1 k.2, ready a.t.now (a.at + 34 + 34) a.s2 k.3)
+    let k = c.requires.at_bound in
+    (c.requires.top_value.0, k.0, ready a.t.now a.at a.s0 k.1, ready a.t.now (a.at + 34) a.s1 k.2, ready a.t.now (a.at + 34 + 34) a.s2 k.3)
 
 pub returns : goal.returns
 returns c =
-    let d = c.before.before.before.before.before.before in
+    let d = c in
     let a = d.args in
-    let f = d.requires.0 in
-    let k = d.requires.1 in
+    let f = d.requires.top_value in
+    let k = d.requires.at_bound in
     let n = d.steps.ensures in
     let p = d.powers-p.ensures in (
       weight a.t.now a.at _ a.s0 _ _ k.1 n refl p.0,

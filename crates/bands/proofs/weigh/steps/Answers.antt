@@ -25,15 +25,18 @@ under n h = mul-lt-mul_of_pos_right {n = 2 ^ 64} (lt_of_lt_of_le h (lit≤ tt)) 
 whole : (f : Float) (s : Stepped f) → T (fits binary32 f) → to_unsigned 64 (raised f) ≡ s.n
 whole f s t = index_value (raised f) (s.n * 2 ^ 32) (2 ^ 32) (pow_pos 32) (under s.n s.steps.small) (raised_value f s t) ∙ mul-div_cancel s.n (pow_pos 32)
 
-pub truncating_f32_to_u64-requires : goal.truncating_f32_to_u64-requires
-truncating_f32_to_u64-requires c =
-    let n = c.requires.n in
-    let v = raised_value c.args.f c.requires (held c) in
-    (above_minus_one (raised c.args.f) (n * 2 ^ 32) (2 ^ 32) v, below_top (raised c.args.f) (n * 2 ^ 32) (2 ^ 32) (under n c.requires.steps.small) v)
-
 pub overflow_cast-result : goal.overflow_cast-result
 overflow_cast-result c = record { fits = subst (λ (n : ℕ). n < 2 ^ 32) (sym (c.truncating_f32_to_u64.ensures ∙ whole c.args.f c.requires (held c.before))) c.requires.steps.small }
 
 pub returns : goal.returns
 unfolding of_bits
 returns c = c.truncating_f32_to_u64.ensures
+
+pub truncating_f32_to_u64-requires : goal.truncating_f32_to_u64-requires
+truncating_f32_to_u64-requires c =
+    let n = c.requires.n in
+    let v = raised_value c.args.f c.requires (held c) in
+    record {
+      lower_bound = above_minus_one (raised c.args.f) (n * 2 ^ 32) (2 ^ 32) v;
+      upper_bound = below_top (raised c.args.f) (n * 2 ^ 32) (2 ^ 32) (under n c.requires.steps.small) v;
+    }

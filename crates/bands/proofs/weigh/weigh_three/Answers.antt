@@ -21,21 +21,6 @@ module _ (l : List Float) (n : ℕ) (t : List ℕ) (few : n ≤ 16) (h : Held l 
   weight : (w : Float) → w ≡ segment_weight s.a s.b s.fraction → w ≡ between (band_in l k) p
   weight w q = q ∙ ap (λ (z : Segment). segment_weight z.a z.b z.fraction) e ∙ segment_between l k p
 
-pub interpolate_three-requires : goal.interpolate_three-requires
-interpolate_three-requires c =
-    let a = c.args in
-    let p = c.requires in
-    let x = c.index-i in
-    let f : c.cut_at-s0.result.fraction ≡ fraction_of a.p = ap (λ (s : Segment). s.fraction) c.cut_at-s0.ensures in (
-      (p.0, subst Stepped (sym f) (stepped a.count a.p p.2), ap (λ (s : Segment). s.fraction) c.cut_at-s1.ensures ∙ sym f, ap (λ (s : Segment). s.fraction) c.cut_at-s2.ensures ∙ sym f),
-      (
-        omega (arith, x.ensures.1, p.1),
-        ratio a.bands.now a.count a.t.now p.1 p.3 0 x.result _ (lit< tt) a.p x.ensures.0 x.ensures.1 (omega arith) _ c.cut_at-s0.ensures,
-        ratio a.bands.now a.count a.t.now p.1 p.3 1 x.result _ (lit< tt) a.p x.ensures.0 x.ensures.1 (omega arith) _ c.cut_at-s1.ensures,
-        ratio a.bands.now a.count a.t.now p.1 p.3 2 x.result _ (lit< tt) a.p x.ensures.0 x.ensures.1 (omega arith) _ c.cut_at-s2.ensures,
-      ),
-    )
-
 pub returns : goal.returns
 returns c =
     let a = c.args in
@@ -45,4 +30,15 @@ returns c =
       weight a.bands.now a.count a.t.now p.1 p.3 0 x.result (x.result * 102) (lit< tt) a.p x.ensures.0 x.ensures.1 (omega arith) _ c.cut_at-s0.ensures _ r.0,
       weight a.bands.now a.count a.t.now p.1 p.3 1 x.result (x.result * 102 + 34) (lit< tt) a.p x.ensures.0 x.ensures.1 (omega arith) _ c.cut_at-s1.ensures _ r.1,
       weight a.bands.now a.count a.t.now p.1 p.3 2 x.result (x.result * 102 + 34 + 34) (lit< tt) a.p x.ensures.0 x.ensures.1 (omega arith) _ c.cut_at-s2.ensures _ r.2,
+    )
+
+pub interpolate_three-requires-clause-at_bound : goal.interpolate_three-requires-clause-at_bound
+interpolate_three-requires-clause-at_bound c =
+    let a = c.args in
+    let p = c.requires in
+    let x = c.index-i in (
+      omega (arith, x.ensures.1, p.1),
+      ratio a.bands.now a.count a.t.now p.1 p.3 0 x.result _ (lit< tt) a.p x.ensures.0 x.ensures.1 (omega arith) _ c.cut_at-s0.ensures,
+      ratio a.bands.now a.count a.t.now p.1 p.3 1 x.result _ (lit< tt) a.p x.ensures.0 x.ensures.1 (omega arith) _ c.cut_at-s1.ensures,
+      ratio a.bands.now a.count a.t.now p.1 p.3 2 x.result _ (lit< tt) a.p x.ensures.0 x.ensures.1 (omega arith) _ c.cut_at-s2.ensures,
     )
