@@ -8,7 +8,7 @@ ghost use Rattle.total.specs.Total.{total_from, total_answer, part_right, replac
 use transform::Kind;
 
 // What a call answers: DONE (0) with a total, or LENT (1).
-#[derive(Drop)]
+#[derive(Clone, Copy)]
 pub enum Total {
     Done { total: u64 },
     Lent,
