@@ -15,21 +15,21 @@ pub use writer::{Written, write_record};
 // wherever it names the type.
 
 // A number that was read and the position past it, or the position that refuses.
-#[derive(Drop)]
+#[derive(Clone, Copy)]
 pub(crate) enum Num {
     Got(u64, usize),
     Bad(usize),
 }
 
 // A sample that was read and the position past it, or the position that refuses.
-#[derive(Drop)]
+#[derive(Clone, Copy)]
 pub(crate) enum Sample {
     Got(i32, usize),
     Bad(usize),
 }
 
 // The position past what was read, or the position that refuses.
-#[derive(Drop)]
+#[derive(Clone, Copy)]
 pub(crate) enum Scan {
     Got(usize),
     Bad(usize),
