@@ -1,6 +1,5 @@
 -- The answers, test by test, and what they say. Assumes nothing.
 use mathlib.Core.Path.{◌≡◌, refl, sym, ap, ◌∙◌, subst}
-use mathlib.Core.Logic.{⊎_elim}
 use mathlib.Core.Bool.{Bool, true, false, cond, ◌&&◌, ◌||◌, true≢false}
 use mathlib.Core.List.{List, [], ◌∷◌, ◌++◌}
 use Prim.Native.Nat.{ℕ, ◌+◌, ◌-◌, ◌≤◌, ◌<◌}
@@ -9,8 +8,6 @@ use borrow.Author.Tests.{eq-eqb, ne_eqb, lt-ltb, le-ltb, eqb-true, ltb-false}
 use lib.Dec.{eqb, ltb}
 use lib.ListN.{length}
 use lib.Ieee.{Float, of_bits, binary32}
-use types.Run.{OneOf}
-use denote.Enum.Declared.{tag_of}
 use Rattle.transform.specs.Kinds.{places_of}
 use Rattle.transform.proofs.Chain.{left, right}
 use Rattle.slices.specs.Slices.{laid_at, closed_at}
@@ -21,7 +18,6 @@ use Rattle.short_arena.specs.declared.arena.Step.{Step}
 use Rattle.short_arena.specs.Held.{held_of, state_of, is_held, sum_over, places_in, start_in, without}
 use Rattle.short_arena.specs.Short.{lent_right, add_answer, add_state, add_arena, find_answer, drop_answer, drop_state, drop_arena, part_with, part_in, shown, leaves}
 use Rattle.short_arena.proofs.Lending.{Right, is_right}
-use Rattle.short_arena.specs.contracts.arena.Answer.{the_type}
 
 -- a kind that is held ends within the places in use
 pub start_fits : (ks : List ℕ) (k : ℕ) → is_held ks k ≡ true → start_in ks k + places_of k ≤ places_in ks
@@ -148,12 +144,10 @@ add_says n s k m f p = go (eqb m (places_of k) && lent_right n s k) (is_held (he
 
 -- what a `let .. else` knows of an answer in its `else`: it names no part
 abbrev pub NoPart : Answer → Type 0
-NoPart r = OneOf (0 ∷ 2 ∷ 3 ∷ 4 ∷ 5 ∷ []) (tag_of the_type r)
+NoPart r = (f p : ℕ) → r ≡ Part f p → ⊥
 
 names_part : {A : Type 0} (f p : ℕ) → NoPart (Part f p) → A
-names_part f p t =
-    absurd
-    (⊎_elim (λ e. omega arith) (λ e. ⊎_elim (λ f. omega arith) (λ f. ⊎_elim (λ g. omega arith) (λ g. ⊎_elim (λ i. omega arith) (λ i. omega arith) g) f) e) t)
+names_part f p t = absurd (t f p refl)
 
 -- ---- what a call leaves
 abbrev step : Answer → State → Step

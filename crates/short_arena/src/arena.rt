@@ -6,7 +6,7 @@ use crate::held::{State, is_held, lent_right, places_in, start_in, with_kind, wi
 use transform::Kind;
 
 // What a call answers: DONE (0), with a part or without, LENT (1), FULL (13), HELD (17) and GONE (18).
-#[derive(Drop)]
+#[derive(Clone, Copy)]
 pub enum Answer {
     Done,
     Part { first: usize, length: usize },
@@ -17,7 +17,7 @@ pub enum Answer {
 }
 
 // An answer, and the state after it.
-#[derive(Drop)]
+#[derive(Clone, Copy)]
 pub struct Step {
     pub answer: Answer,
     pub state: State,

@@ -7,7 +7,7 @@ ghost use Rattle.short_arena.specs.Short.{lent_right};
 use transform::Kind;
 
 // How many kinds are held, and which, in the order added; 0 behind them.
-#[derive(Drop)]
+#[derive(Clone, Copy)]
 pub struct State {
     pub count: usize,
     pub kinds: [usize; 17],
