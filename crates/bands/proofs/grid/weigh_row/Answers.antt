@@ -1,5 +1,5 @@
 -- `grid::weigh_row`: place by place (`Laid`). Assumes nothing.
-use Rattle.std.proofs.Common.{ℕ, ◌+◌, ◌-◌, ◌*◌, ◌^◌, ◌<◌, ◌≤◌, sym, subst, le_trans, le_refl, lt_of_lt_of_le, lt_of_le_of_lt, le_of_lt, add_assoc, le_antisymm, arith, lit<, rules}
+use Rattle.std.proofs.Common.{ℕ, ◌+◌, ◌*◌, ◌^◌, ◌<◌, sym, subst, lt_of_le_of_lt, add_assoc, le_antisymm, arith, lit<}
 use Rattle.bands.specs.Position.{Cut}
 use Rattle.bands.specs.Views.{band_in}
 use Rattle.bands.specs.Grids.{grid_cell, Laid, Sized}

@@ -1,7 +1,7 @@
 -- `three::powers` meets its contract: the first rows are in the range that the second start from. Assumes nothing.
-use Rattle.std.proofs.Common.{◌≡◌, ℕ, ◌+◌, refl, le_refl, arith, lit<, rules}
+use Rattle.std.proofs.Common.{◌≡◌, ℕ, ◌+◌, refl, le_refl, arith, lit<}
 use Rattle.bands.specs.Views.{Starts}
-use Rattle.bands.proofs.Tables.{ready_links, ready_starts, ready_power}
+use Rattle.bands.proofs.Tables.{ready_starts, ready_power}
 use Rattle.bands.proofs.three.powers.Goals as goal
 
 -- where the chains of the second and the third channel start
