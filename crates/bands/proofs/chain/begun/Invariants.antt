@@ -1,7 +1,6 @@
 -- `chain::begun`: the digits that come down are laid before i; the rest is `digits_eight`. Assumes nothing.
-use Rattle.std.proofs.Common.{◌-◌, ◌*◌, ◌/◌, ◌%◌, ◌^◌, get_or, refl, arith, rules}
-use Rattle.bands.proofs.TableLaws.{Building, building_none, building_more, building_all}
-use Rattle.bands.proofs.ChainRoots.{chains_begun, chains_nearly}
+use Rattle.std.proofs.Common.{◌-◌, ◌*◌, ◌/◌, ◌%◌, ◌^◌, get_or}
+use Rattle.bands.proofs.TableLaws.{Building}
 use Rattle.bands.proofs.chain.begun.Given as goal
 
 abbrev pub invariant-loop-i : goal.invariant-loop-i

@@ -1,7 +1,6 @@
 -- `chain::by_halves`: the numbers before i are there. Assumes nothing.
-use Rattle.std.proofs.Common.{◌-◌, ◌*◌, ◌^◌, get_or, refl, rules}
-use Rattle.bands.specs.Root.{whole_root}
-use Rattle.bands.proofs.TableLaws.{Building, building_none, building_more, building_all}
+use Rattle.std.proofs.Common.{refl}
+use Rattle.bands.proofs.TableLaws.{building_none, building_more, building_all}
 use Rattle.bands.proofs.chain.by_halves.Goals as goal
 
 pub loop-i-init : goal.loop-i-init

@@ -1,7 +1,7 @@
 -- `chain::by_halves`: the numbers before i are there. Assumes nothing.
-use Rattle.std.proofs.Common.{◌-◌, ◌*◌, ◌^◌, get_or, refl, rules}
+use Rattle.std.proofs.Common.{◌-◌, ◌*◌, ◌^◌, get_or}
 use Rattle.bands.specs.Root.{whole_root}
-use Rattle.bands.proofs.TableLaws.{Building, building_none, building_more, building_all}
+use Rattle.bands.proofs.TableLaws.{Building}
 use Rattle.bands.proofs.chain.by_halves.Given as goal
 
 abbrev pub invariant-loop-i : goal.invariant-loop-i

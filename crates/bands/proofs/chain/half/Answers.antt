@@ -1,6 +1,5 @@
 -- `chain::half` is the whole root of 2 ^ 31 times a number near 2 ^ 31. Assumes nothing.
 use Rattle.bands.proofs.ChainRoots.{half_some, half_none}
-use Rattle.std.proofs.Common.{rules}
 use Rattle.bands.proofs.chain.half.Goals as goal
 
 pub returns-then-k-gt0 : goal.returns-then-k-gt0

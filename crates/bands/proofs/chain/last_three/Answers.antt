@@ -1,5 +1,5 @@
 -- `chain::last_three`: three digits more of a root (`three`). Assumes nothing.
-use Rattle.std.proofs.Common.{◌+◌, ◌-◌, ◌*◌, ◌%◌, ◌^◌, ◌<◌, ◌≤◌, refl, ◌∙◌, subst, zero-le, le_trans, le_of_eq, le_of_lt, arith, rules}
+use Rattle.std.proofs.Common.{◌+◌, ◌-◌, ◌*◌, ◌%◌, ◌^◌, ◌<◌, ◌≤◌, refl, ◌∙◌, subst, zero-le, le_trans, le_of_eq, le_of_lt, arith}
 use Rattle.bands.specs.Eights.{Less}
 use Rattle.bands.proofs.ChainRoots.{Told, told, told_some, told_le, told_bit, Leaves, leaves, first_small, second_small, three, shifted, odd}
 use Rattle.bands.proofs.chain.last_three.Goals as goal

@@ -1,6 +1,5 @@
 -- `freq::freq_position`. Assumes nothing.
 use Rattle.bands.proofs.Freqs.{freq_position_lem}
-use Rattle.std.proofs.Common.{rules}
 use Rattle.bands.proofs.freq.freq_position.Goals as goal
 
 pub returns : goal.returns

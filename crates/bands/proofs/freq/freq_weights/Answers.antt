@@ -1,7 +1,6 @@
 -- `freq::freq_weights`: k by k (`Laid`). Assumes nothing.
-use Rattle.std.proofs.Common.{◌-◌, ◌≤◌, sym, refl, ◌∙◌, arith, lit<, lit≤, rules}
+use Rattle.std.proofs.Common.{sym, refl, ◌∙◌, arith, lit<, lit≤, rules}
 use Rattle.bands.specs.Views.{corner_by}
-use Rattle.bands.specs.Grids.{Laid}
 use Rattle.bands.proofs.Freqs.{corner_weights}
 use Rattle.bands.proofs.Laid.{laid_none, laid_on, laid_all}
 use Rattle.bands.proofs.freq.freq_weights.Goals as goal
@@ -33,4 +32,4 @@ returns c =
     ∙ corner_weights v.args.numbers.now b.result b.ensures
 
 pub all_bands-bands-requires : goal.all_bands-bands-requires
-all_bands-bands-requires c = (lit≤ tt, lit≤ tt, c.all_bands-arg-1.given)
+all_bands-bands-requires c = (lit≤ tt, lit≤ tt, search rules)

@@ -1,9 +1,7 @@
 -- `freq::freq_weights`: k by k (`Laid`). Assumes nothing.
-use Rattle.std.proofs.Common.{◌-◌, ◌≤◌, sym, refl, ◌∙◌, arith, lit<, lit≤, rules}
+use Rattle.std.proofs.Common.{◌-◌, ◌≤◌}
 use Rattle.bands.specs.Views.{corner_by}
 use Rattle.bands.specs.Grids.{Laid}
-use Rattle.bands.proofs.Freqs.{corner_weights}
-use Rattle.bands.proofs.Laid.{laid_none, laid_on, laid_all}
 use Rattle.bands.proofs.freq.freq_weights.Given as goal
 
 abbrev pub invariant-loop-k : goal.invariant-loop-k

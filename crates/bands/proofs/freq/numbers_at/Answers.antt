@@ -1,5 +1,5 @@
 -- `freq::numbers_at` is `corner_by` of each channel. Assumes nothing.
-use Rattle.std.proofs.Common.{sym, ◌∙◌, subst, lit≤, rules}
+use Rattle.std.proofs.Common.{sym, ◌∙◌, subst, lit≤}
 use lib.Ieee.{of_bits}
 use Rattle.bands.specs.Position.{Cut}
 use Rattle.bands.proofs.Freqs.{freq_cut, corner_off, corner_on}

@@ -1,9 +1,6 @@
 -- `grid::copied`: up to x the columns of row y are copied (`Copied`). Assumes nothing.
-use Rattle.std.proofs.Common.{◌≡◌, ℕ, ◌+◌, ◌-◌, ◌*◌, ◌<◌, ◌≤◌, length, sym, ap, ◌∙◌, subst, zero-le, lt_trans, le_of_lt, arith, rules}
+use Rattle.std.proofs.Common.{◌≡◌, ◌-◌, ◌*◌, ◌≤◌, length}
 use Rattle.bands.specs.Grids.{Copied}
-use Rattle.bands.proofs.Laid.{put_length}
-use Rattle.bands.proofs.Cells.{place_in, area_le}
-use Rattle.bands.proofs.Mirror.{copied_none, copied_more, copied_all}
 use Rattle.bands.proofs.grid.copied.Given as goal
 
 abbrev pub invariant-loop-x : goal.invariant-loop-x

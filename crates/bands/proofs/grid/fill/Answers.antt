@@ -1,5 +1,5 @@
 -- `grid::fill` by its two cases. Assumes nothing.
-use Rattle.std.proofs.Common.{◌≡◌, ℕ, sym, subst, rules}
+use Rattle.std.proofs.Common.{◌≡◌, ℕ, sym, subst}
 use Rattle.bands.specs.Grids.{grid_of}
 use Rattle.bands.proofs.grid.fill.Goals as goal
 

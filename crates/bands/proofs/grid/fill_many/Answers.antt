@@ -1,6 +1,6 @@
 -- `grid::fill_many`: row by row (`Laid`), where a square grid has copied columns (`Copied`). Assumes nothing.
-use Rattle.std.proofs.Common.{◌-◌, ◌*◌, ◌<◌, ◌≤◌, sym, zero-le, le_trans, le_of_eq, mul-le-mul_right, mul_comm, zero-mul, arith, rules}
-use Rattle.bands.specs.Grids.{grid_cell, grid_of, Laid}
+use Rattle.std.proofs.Common.{◌*◌, ◌<◌, sym, zero-le, le_trans, le_of_eq, mul-le-mul_right, mul_comm, zero-mul, arith}
+use Rattle.bands.specs.Grids.{grid_cell, grid_of}
 use Rattle.bands.proofs.Laid.{laid_none, laid_at_lem, laid_all}
 use Rattle.bands.proofs.Cells.{sized, next_row, area_pos}
 use Rattle.bands.proofs.Mirror.{mirrored}

@@ -1,9 +1,6 @@
 -- `grid::fill_one`: place by place (`Laid`). Assumes nothing.
-use Rattle.std.proofs.Common.{◌-◌, ◌*◌, ◌<◌, ◌≤◌, lt_of_le_of_lt, arith, lit<, rules}
-use Rattle.bands.specs.Views.{band_in}
-use Rattle.bands.specs.Grids.{grid_cell, grid_of, Laid}
-use Rattle.bands.proofs.Laid.{laid_none, laid_on, laid_all}
-use Rattle.bands.proofs.Cells.{cell_one, area_le, area_pos}
+use Rattle.std.proofs.Common.{◌-◌, ◌*◌, ◌≤◌}
+use Rattle.bands.specs.Grids.{grid_cell, Laid}
 use Rattle.bands.proofs.grid.fill_one.Given as goal
 
 abbrev pub invariant-loop-q : goal.invariant-loop-q

@@ -1,8 +1,6 @@
 -- `grid::positions`: up to x, a multiple of 8, each position is there (`Placing`). Assumes nothing.
-use Rattle.std.proofs.Common.{◌≡◌, ℕ, ◌-◌, ◌%◌, ◌<◌, ◌≤◌, refl, ap, ◌∙◌, arith, rules}
-use lib.Ieee.{Float}
-use Rattle.bands.specs.Position.{position_of}
-use Rattle.bands.proofs.Cells.{Placing, placing_none, placing_more, placing_all, placing_first}
+use Rattle.std.proofs.Common.{◌-◌}
+use Rattle.bands.proofs.Cells.{Placing}
 use Rattle.bands.proofs.grid.positions.Given as goal
 
 abbrev pub invariant-loop-x : goal.invariant-loop-x

@@ -1,8 +1,6 @@
 -- `grid::put_positions`: the first i of eight columns are laid (`Laying`). Assumes nothing.
-use Rattle.std.proofs.Common.{◌+◌, ◌-◌, ◌<◌, sym, ap, ◌∙◌, le_of_eq, lt_of_lt_of_le, arith, rules}
-use lib.Ieee.{Float}
-use Rattle.bands.specs.Position.{position_of}
-use Rattle.bands.proofs.ColumnLaws.{columns_begun, column_asked, column_root, Laying, laying_none, laying_more, laying_all}
+use Rattle.std.proofs.Common.{◌-◌}
+use Rattle.bands.proofs.ColumnLaws.{Laying}
 use Rattle.bands.proofs.grid.put_positions.Given as goal
 
 abbrev pub invariant-loop-i : goal.invariant-loop-i

@@ -1,15 +1,12 @@
 -- `grid::weigh_row`: place by place (`Laid`). Assumes nothing.
-use Rattle.std.proofs.Common.{ℕ, ◌+◌, ◌-◌, ◌*◌, ◌^◌, ◌<◌, ◌≤◌, sym, subst, le_trans, le_refl, lt_of_lt_of_le, lt_of_le_of_lt, le_of_lt, add_assoc, le_antisymm, arith, lit<, rules}
+use Rattle.std.proofs.Common.{ℕ, ◌+◌, ◌*◌, ◌<◌, sym, subst, add_assoc, le_antisymm, arith}
 use Rattle.bands.specs.Position.{Cut}
 use Rattle.bands.specs.Views.{band_in}
-use Rattle.bands.specs.Grids.{grid_cell, Laid, Sized}
+use Rattle.bands.specs.Grids.{grid_cell, Laid}
 use Rattle.bands.proofs.Laid.{laid_next}
 use Rattle.bands.proofs.Asserts.{place_cut}
-use Rattle.bands.proofs.Cells.{row_cell, place_in, area_le}
+use Rattle.bands.proofs.Cells.{row_cell, place_in}
 use Rattle.bands.proofs.grid.weigh_row.Goals as goal
-
-area_fits : (n w h : ℕ) → Sized n w h → w * h < 2 ^ 64
-area_fits n w h s = lt_of_le_of_lt (area_le w h s.not_wider s.not_higher) (lit< tt)
 
 pub top_chain-top-requires : goal.top_chain-top-requires
 top_chain-top-requires c = tt

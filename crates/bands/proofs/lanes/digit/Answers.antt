@@ -1,5 +1,5 @@
 -- `lanes::digit` meets its contract. Assumes nothing.
-use Rattle.std.proofs.Common.{ltb, ap, ◌∙◌, rules}
+use Rattle.std.proofs.Common.{ltb, ap, ◌∙◌}
 use mir.Val.{bool_byte}
 use Rattle.bands.proofs.BringDown.{byte}
 use Rattle.bands.proofs.InLanes.{signed_less}

@@ -1,6 +1,5 @@
 -- `lanes::digits_eight`: k digits of each root are to come (`Coming`). Assumes nothing.
-use Rattle.bands.proofs.InLanes.{Coming, coming_none, coming_turning, coming_more, coming_all}
-use Rattle.std.proofs.Common.{rules}
+use Rattle.bands.proofs.InLanes.{coming_none, coming_turning, coming_more, coming_all}
 use Rattle.bands.proofs.lanes.digits_eight.Goals as goal
 
 pub loop-k-init : goal.loop-k-init

@@ -1,5 +1,5 @@
 -- `lanes::over` meets its contract. Assumes nothing.
-use Rattle.std.proofs.Common.{◌<◌, ◌≤◌, sym, ◌∙◌, arith, rules, ltb-false, ltb-true}
+use Rattle.std.proofs.Common.{◌<◌, ◌≤◌, sym, ◌∙◌, arith, ltb-false, ltb-true}
 use Rattle.bands.proofs.ChainLists.{cond_lt, cond_le}
 use Rattle.bands.proofs.InLanes.{signed_less}
 use Rattle.bands.proofs.lanes.over.Goals as goal

@@ -1,5 +1,5 @@
 -- `lanes::packed` is the rounded root, where the bits are those of a normal float. Assumes nothing.
-use Rattle.std.proofs.Common.{le_of_lt, rules}
+use Rattle.std.proofs.Common.{le_of_lt}
 use Rattle.bands.proofs.Patterns.{no_nan}
 use Rattle.bands.proofs.LaneRoots.{packed_small, root_packed}
 use Rattle.bands.proofs.lanes.packed.Goals as goal

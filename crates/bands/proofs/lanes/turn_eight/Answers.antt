@@ -1,24 +1,13 @@
 -- `lanes::turn_eight`: each lane takes its turn (`Passing`). Assumes nothing.
-use Rattle.std.proofs.Common.{◌-◌, ◌^◌, ◌<◌, get_or, rules}
-use Rattle.bands.proofs.BringDown.{brings, fourfold}
-use Rattle.bands.proofs.InLanes.{Passing, passing_none, passing_lane, passing_more, passing_all, lane_small, lane_turn}
+use Rattle.bands.proofs.InLanes.{passing_none, passing_lane, passing_more, passing_all, lane_small, lane_turn}
 use Rattle.bands.proofs.lanes.turn_eight.Goals as goal
-use Rattle.bands.proofs.lanes.turn_eight.Goals.{After-t-1}
-
--- what is compared is small
-small : (d : After-t-1)
-    → (fourfold (2 ^ 32) (get_or d.loop-i.root d.loop-i.i 0) < 2 ^ 31)
-    × (brings (2 ^ 32) (2 ^ 30) (get_or d.loop-i.rem d.loop-i.i 0) (get_or d.loop-i.left d.loop-i.i 0) < 2 ^ 31)
-small d =
-    let m = d.before.before.before in
-    let t = m.requires in
-    lane_small _ _ _ _ _ t.more (passing_lane _ _ _ _ _ _ _ m.loop-i-test.true t m.loop-i.invariant)
 
 pub loop-i-init : goal.loop-i-init
 loop-i-init c = passing_none _ _ _
 
+-- what is compared is small
 pub over-requires : goal.over-requires
-over-requires c = small c
+over-requires c = lane_small _ _ _ _ _ c.requires.more (passing_lane _ _ _ _ _ _ _ c.loop-i-test.true c.requires c.loop-i.invariant)
 
 pub loop-i-preserved : goal.loop-i-preserved
 loop-i-preserved c =

@@ -1,7 +1,6 @@
 -- `lanes::turn_eight`: each lane takes its turn (`Passing`). Assumes nothing.
-use Rattle.std.proofs.Common.{◌-◌, ◌^◌, ◌<◌, get_or, rules}
-use Rattle.bands.proofs.BringDown.{brings, fourfold}
-use Rattle.bands.proofs.InLanes.{Passing, passing_none, passing_lane, passing_more, passing_all, lane_small, lane_turn}
+use Rattle.std.proofs.Common.{◌-◌}
+use Rattle.bands.proofs.InLanes.{Passing}
 use Rattle.bands.proofs.lanes.turn_eight.Given as goal
 
 abbrev pub invariant-loop-i : goal.invariant-loop-i

@@ -1,8 +1,8 @@
 -- `list::lay_bands`: band after band (`Filling`). Assumes nothing.
-use Rattle.std.proofs.Common.{◌≡◌, ◌-◌, length, get_or, set, ◌∙◌, arith, length-set, rules}
+use Rattle.std.proofs.Common.{◌≡◌, length, get_or, set, ◌∙◌, arith, length-set}
 use lib.Ieee.{nan}
 use Rattle.bands.specs.Bands.{at_of}
-use Rattle.bands.proofs.Sound.{Filling, filling_one, filling_more, filling_all}
+use Rattle.bands.proofs.Sound.{filling_one, filling_more, filling_all}
 use Rattle.bands.proofs.list.lay_bands.Goals as goal
 
 pub loop-i-init : goal.loop-i-init

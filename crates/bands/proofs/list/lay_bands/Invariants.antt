@@ -1,8 +1,7 @@
 -- `list::lay_bands`: band after band (`Filling`). Assumes nothing.
-use Rattle.std.proofs.Common.{◌≡◌, ◌-◌, length, get_or, set, ◌∙◌, arith, length-set, rules}
-use lib.Ieee.{nan}
+use Rattle.std.proofs.Common.{◌-◌, length}
 use Rattle.bands.specs.Bands.{at_of}
-use Rattle.bands.proofs.Sound.{Filling, filling_one, filling_more, filling_all}
+use Rattle.bands.proofs.Sound.{Filling}
 use Rattle.bands.proofs.list.lay_bands.Given as goal
 
 abbrev pub invariant-loop-i : goal.invariant-loop-i

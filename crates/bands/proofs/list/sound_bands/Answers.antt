@@ -1,7 +1,7 @@
 -- `list::sound_bands`: band after band (`Sounding`). Assumes nothing.
-use Rattle.std.proofs.Common.{◌-◌, ◌<◌, length, sym, ◌∙◌, arith, rules}
+use Rattle.std.proofs.Common.{◌<◌, length, sym, ◌∙◌}
 use Rattle.bands.specs.Bands.{at_of}
-use Rattle.bands.proofs.Sound.{Sounding, none_sound, sounding_one, sounding_more, sounding_stop, sounding_all}
+use Rattle.bands.proofs.Sound.{none_sound, sounding_one, sounding_more, sounding_stop, sounding_all}
 use Rattle.bands.proofs.list.sound_bands.Goals as goal
 
 pub returns-then-numbers-eq0 : goal.returns-then-numbers-eq0

@@ -1,7 +1,7 @@
 -- `list::sound_bands`: band after band (`Sounding`). Assumes nothing.
-use Rattle.std.proofs.Common.{◌-◌, ◌<◌, length, sym, ◌∙◌, arith, rules}
+use Rattle.std.proofs.Common.{◌-◌, length}
 use Rattle.bands.specs.Bands.{at_of}
-use Rattle.bands.proofs.Sound.{Sounding, none_sound, sounding_one, sounding_more, sounding_stop, sounding_all}
+use Rattle.bands.proofs.Sound.{Sounding}
 use Rattle.bands.proofs.list.sound_bands.Given as goal
 
 abbrev pub invariant-loop-i : goal.invariant-loop-i

@@ -1,6 +1,6 @@
 -- `own_power::chain` meets its contract: up to j the list holds the chain's numbers, and `last` is the next one (`Filling`). Assumes nothing.
-use Rattle.std.proofs.Common.{◌-◌, refl, arith, rules}
-use Rattle.bands.proofs.ChainLists.{Filling, filling_none, filling_more, filling_all, filling_small}
+use Rattle.std.proofs.Common.{refl, arith}
+use Rattle.bands.proofs.ChainLists.{filling_none, filling_more, filling_all, filling_small}
 use Rattle.bands.proofs.own_power.chain.Goals as goal
 
 pub loop-j-init : goal.loop-j-init

@@ -1,6 +1,6 @@
 -- `own_power::chain` meets its contract: up to j the list holds the chain's numbers, and `last` is the next one (`Filling`). Assumes nothing.
-use Rattle.std.proofs.Common.{◌-◌, refl, arith, rules}
-use Rattle.bands.proofs.ChainLists.{Filling, filling_none, filling_more, filling_all, filling_small}
+use Rattle.std.proofs.Common.{◌-◌}
+use Rattle.bands.proofs.ChainLists.{Filling}
 use Rattle.bands.proofs.own_power.chain.Given as goal
 
 abbrev pub invariant-loop-j : goal.invariant-loop-j

@@ -1,5 +1,5 @@
 -- `own_power::finish` is `finished`. Assumes nothing.
-use Rattle.std.proofs.Common.{ℕ, ◌*◌, ◌/◌, ◌^◌, ◌<◌, Bool, false, cond, sym, ap, ◌∙◌, subst, rules, ne_eqb}
+use Rattle.std.proofs.Common.{ℕ, ◌*◌, ◌/◌, ◌^◌, ◌<◌, Bool, false, cond, sym, ap, ◌∙◌, subst, ne_eqb}
 use lib.Ieee.{nan, binary32, round}
 use Rattle.bands.specs.Power.{turns}
 use Rattle.bands.specs.Views.{finished}

@@ -1,5 +1,5 @@
 -- `own_power::nearest_shift` meets its contract, by the three ways that the remainder compares with a half. Assumes nothing.
-use Rattle.std.proofs.Common.{◌≡◌, ℕ, ◌*◌, ◌%◌, ◌^◌, ◌<◌, ◌≤◌, sym, ap, ◌∙◌, subst, mod-eq_of_lt, one-mul, arith, pow_pos, rules}
+use Rattle.std.proofs.Common.{◌≡◌, ℕ, ◌*◌, ◌%◌, ◌^◌, ◌<◌, ◌≤◌, sym, ap, ◌∙◌, subst, mod-eq_of_lt, one-mul, arith, pow_pos}
 use native.Mathlib.Nat.{mod-le}
 use lib.Pow.{pow-lt, shr_le}
 use Rattle.bands.proofs.Rounding.{closest_below, closest_above, closest_tie}

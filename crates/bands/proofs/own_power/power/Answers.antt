@@ -1,5 +1,5 @@
 -- `own_power::power` is P: two rows of products from the chain of q, finished. Assumes nothing.
-use Rattle.std.proofs.Common.{◌≡◌, ℕ, ◌^◌, ◌<◌, ◌≤◌, T, get_or, sym, ap, ◌∙◌, subst, le_trans, le_of_eq, lt_of_le_of_lt, le_of_lt, lit<, lit≤, rules}
+use Rattle.std.proofs.Common.{◌≡◌, ℕ, ◌^◌, ◌<◌, ◌≤◌, T, get_or, sym, ap, ◌∙◌, subst, le_trans, le_of_eq, lt_of_le_of_lt, le_of_lt}
 use lib.Ieee.{binary32, fits}
 use Rattle.bands.specs.Views.{chain_from, IsChain, start_of, finished, second_row, Starts}
 use Rattle.bands.proofs.ChainLists.{first_of}

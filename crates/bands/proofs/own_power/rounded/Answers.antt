@@ -1,5 +1,5 @@
 -- `own_power::rounded` meets its contract: what is kept of y is the pattern, with the digits that its unit has above the smallest one as the field. Assumes nothing.
-use Rattle.std.proofs.Common.{◌≡◌, ℕ, ◌+◌, ◌-◌, ◌*◌, ◌^◌, ◌<◌, ◌≤◌, refl, ap, ◌∙◌, lt_of_lt_of_le, arith, pow_mono, rules}
+use Rattle.std.proofs.Common.{◌≡◌, ℕ, ◌+◌, ◌-◌, ◌*◌, ◌^◌, ◌<◌, ◌≤◌, refl, ap, ◌∙◌, lt_of_lt_of_le, arith, pow_mono}
 use lib.Ieee.{binary32, of_bits}
 use Rattle.bands.proofs.Patterns.{kept_high, from_bits, from_units, no_nan}
 use Rattle.bands.proofs.own_power.rounded.Goals as goal

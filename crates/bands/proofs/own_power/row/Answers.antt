@@ -1,7 +1,7 @@
 -- `own_power::row` meets its contract: what is left of n, from z on, gives the product of the definition (`Left`). Assumes nothing.
-use Rattle.std.proofs.Common.{◌<◌, get_or, arith, rules}
+use Rattle.std.proofs.Common.{◌<◌, arith}
 use lib.Count.{count_leading_zeros}
-use Rattle.bands.proofs.SetBits.{Left, left_all, left_none, left_less, left_few, unit_pos}
+use Rattle.bands.proofs.SetBits.{left_none, left_less, left_few, unit_pos}
 use Rattle.bands.proofs.Tables.{links_of, link_on, link_fits}
 use Rattle.bands.proofs.own_power.row.Goals as goal
 use Rattle.bands.proofs.own_power.row.Goals.{In-loop-left}

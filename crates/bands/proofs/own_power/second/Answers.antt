@@ -1,5 +1,5 @@
 -- `own_power::second` is `second_row`. Assumes nothing.
-use Rattle.std.proofs.Common.{◌^◌, lt_of_lt_of_le, le_of_lt, mod-lt, lit≤, pow_pos, rules}
+use Rattle.std.proofs.Common.{◌^◌, lit≤}
 use Rattle.bands.proofs.ChainLists.{is_chain}
 use Rattle.bands.proofs.PowerLaws.{second_is}
 use Rattle.bands.proofs.own_power.second.Goals as goal

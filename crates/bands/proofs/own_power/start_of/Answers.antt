@@ -1,5 +1,5 @@
 -- `own_power::start_of` meets its contract, by the bits of q. Assumes nothing.
-use Rattle.std.proofs.Common.{◌≡◌, ℕ, ◌-◌, ◌*◌, ◌^◌, ◌<◌, not, T, sym, ◌∙◌, subst, ⊎_elim, lt_of_lt_of_le, le_of_lt, arith, lit≤, rules, leb-false, leb-true}
+use Rattle.std.proofs.Common.{◌≡◌, ℕ, ◌*◌, ◌^◌, ◌<◌, not, T, sym, ◌∙◌, subst, ⊎_elim, lt_of_lt_of_le, le_of_lt, arith, lit≤}
 use lib.Count.{count_leading_zeros}
 use lib.Ieee.{Float, binary32, fits, to_bits}
 use lib.Ieee.Compare.{differs_from_itself}

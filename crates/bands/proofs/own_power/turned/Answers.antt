@@ -1,5 +1,5 @@
 -- `own_power::turned` is `turns`: nothing wraps. Assumes nothing.
-use Rattle.std.proofs.Common.{ℕ, ◌*◌, ◌<◌, ◌≤◌, mul-le-mul_right, arith, rules}
+use Rattle.std.proofs.Common.{ℕ, ◌*◌, ◌<◌, ◌≤◌, mul-le-mul_right, arith}
 use Rattle.bands.proofs.own_power.turned.Goals as goal
 
 product_small : (e n : ℕ) → e < 278 → e * n ≤ 277 * n

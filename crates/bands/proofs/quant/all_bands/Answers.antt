@@ -1,6 +1,5 @@
 -- `quant::all_bands`: channel by channel (`Channels`). Assumes nothing.
-use Rattle.std.proofs.Common.{◌≡◌, ◌-◌, ◌<◌, ◌≤◌, length, refl, ◌∙◌, arith, rules}
-use Rattle.bands.specs.Grids.{Channels}
+use Rattle.std.proofs.Common.{◌<◌, refl, ◌∙◌, arith, rules}
 use Rattle.bands.proofs.QuantLaws.{channel_fits, part_length, channels_none, channels_more, channels_all}
 use Rattle.bands.proofs.quant.all_bands.Goals as goal
 

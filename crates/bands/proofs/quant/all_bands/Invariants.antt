@@ -1,7 +1,6 @@
 -- `quant::all_bands`: channel by channel (`Channels`). Assumes nothing.
-use Rattle.std.proofs.Common.{◌≡◌, ◌-◌, ◌<◌, ◌≤◌, length, refl, ◌∙◌, arith, rules}
+use Rattle.std.proofs.Common.{◌≡◌, ◌-◌, ◌≤◌, length}
 use Rattle.bands.specs.Grids.{Channels}
-use Rattle.bands.proofs.QuantLaws.{channel_fits, part_length, channels_none, channels_more, channels_all}
 use Rattle.bands.proofs.quant.all_bands.Given as goal
 
 abbrev pub invariant-loop-c : goal.invariant-loop-c

@@ -1,7 +1,5 @@
 -- `quant::band_answer`: channel by channel. Assumes nothing.
-use Rattle.std.proofs.Common.{◌≡◌, ◌-◌, ◌≤◌, arith, rules}
-use Rattle.bands.specs.Quant.{band_answer}
-use Rattle.bands.specs.declared.quant.Banded.TheVariants.{Done}
+use Rattle.std.proofs.Common.{arith, rules}
 use Rattle.bands.proofs.QuantLaws.{channel_fits, sound_part, answer_none, answer_on, answer_stop, answer_all}
 use Rattle.bands.proofs.quant.band_answer.Goals as goal
 

@@ -1,8 +1,7 @@
 -- `quant::band_answer`: channel by channel. Assumes nothing.
-use Rattle.std.proofs.Common.{◌≡◌, ◌-◌, ◌≤◌, arith, rules}
+use Rattle.std.proofs.Common.{◌≡◌, ◌-◌, ◌≤◌}
 use Rattle.bands.specs.Quant.{band_answer}
 use Rattle.bands.specs.declared.quant.Banded.TheVariants.{Done}
-use Rattle.bands.proofs.QuantLaws.{channel_fits, sound_part, answer_none, answer_on, answer_stop, answer_all}
 use Rattle.bands.proofs.quant.band_answer.Given as goal
 
 abbrev pub invariant-loop-c : goal.invariant-loop-c

@@ -1,9 +1,7 @@
 -- `quant::clear` meets its contract. The invariant: the first i are zero. Assumes nothing.
-use Rattle.std.proofs.Common.{◌≡◌, ℕ, ◌-◌, ◌≤◌, length, set, sym, refl, ap, ◌∙◌, zero-add, arith, length-set}
-use lib.Seq.{sets}
+use Rattle.std.proofs.Common.{ℕ, set, sym, refl, ap, ◌∙◌, zero-add, arith, length-set}
 use lib.Ieee.{of_bits}
 use Rattle.bands.specs.Bands.{nought}
-use Rattle.bands.specs.Table.{tab}
 use Rattle.bands.proofs.TableLaws.{step_on, filled}
 use Rattle.bands.proofs.quant.clear.Goals as goal
 

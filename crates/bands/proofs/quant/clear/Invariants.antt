@@ -1,10 +1,8 @@
 -- `quant::clear` meets its contract. The invariant: the first i are zero. Assumes nothing.
-use Rattle.std.proofs.Common.{◌≡◌, ℕ, ◌-◌, ◌≤◌, length, set, sym, refl, ap, ◌∙◌, zero-add, arith, length-set}
+use Rattle.std.proofs.Common.{◌≡◌, ◌-◌, ◌≤◌, length}
 use lib.Seq.{sets}
-use lib.Ieee.{of_bits}
 use Rattle.bands.specs.Bands.{nought}
 use Rattle.bands.specs.Table.{tab}
-use Rattle.bands.proofs.TableLaws.{step_on, filled}
 use Rattle.bands.proofs.quant.clear.Given as goal
 
 abbrev pub invariant-loop-i : goal.invariant-loop-i

@@ -1,6 +1,6 @@
 -- `quant::dct_quant_weights`: LENT, BAND, DONE. Assumes nothing.
-use Rattle.std.proofs.Common.{true, false, length, sym, ◌∙◌, rules}
-use Rattle.bands.proofs.LentLaws.{undo, lent_is_grid, lent_numbers_are}
+use Rattle.std.proofs.Common.{length, sym, ◌∙◌}
+use Rattle.bands.proofs.LentLaws.{lent_is_grid, lent_numbers_are}
 use Rattle.bands.proofs.QuantLaws.{answer_lent, answer_right, leaves_as, all_done, all_zero_lem}
 use Rattle.bands.proofs.quant.dct_quant_weights.Goals as goal
 

@@ -1,5 +1,5 @@
 -- `quant::is_kind` is `kind_is`. Assumes nothing.
-use Rattle.std.proofs.Common.{ℕ, eqb, sym, ap, ◌∙◌, rules}
+use Rattle.std.proofs.Common.{ℕ, eqb, sym, ap, ◌∙◌}
 use Rattle.bands.proofs.LentLaws.{kind_off, kind_on}
 use Rattle.bands.proofs.quant.is_kind.Goals as goal
 

@@ -1,6 +1,6 @@
 -- `quant::lent_right` is `lent_right`, test by test. Assumes nothing.
-use Rattle.std.proofs.Common.{true, false, sym, ◌∙◌, arith, rules}
-use Rattle.bands.proofs.LentLaws.{undo, grid_sides, lent_none, lent_many, lent_numbers, lent_grid, lent_last}
+use Rattle.std.proofs.Common.{sym, ◌∙◌, arith}
+use Rattle.bands.proofs.LentLaws.{grid_sides, lent_none, lent_many, lent_numbers, lent_grid, lent_last}
 use Rattle.bands.proofs.Cells.{area_le}
 use Rattle.bands.proofs.quant.lent_right.Goals as goal
 

@@ -1,5 +1,5 @@
 -- `quant::of_kind`: kind by kind. Assumes nothing.
-use Rattle.std.proofs.Common.{◌≡◌, ℕ, ◌-◌, ◌≤◌, false, sym, ap, ◌∙◌, arith}
+use Rattle.std.proofs.Common.{◌≡◌, ℕ, ◌≤◌, sym, ap, ◌∙◌, arith}
 use Rattle.bands.specs.Quant.{kind_has}
 use Rattle.bands.proofs.LentLaws.{no_kind, next_kind, some_kind}
 use Rattle.bands.proofs.quant.of_kind.Goals as goal

@@ -1,7 +1,6 @@
 -- `quant::of_kind`: kind by kind. Assumes nothing.
-use Rattle.std.proofs.Common.{◌≡◌, ℕ, ◌-◌, ◌≤◌, false, sym, ap, ◌∙◌, arith}
+use Rattle.std.proofs.Common.{◌≡◌, ◌-◌, ◌≤◌, false}
 use Rattle.bands.specs.Quant.{kind_has}
-use Rattle.bands.proofs.LentLaws.{no_kind, next_kind, some_kind}
 use Rattle.bands.proofs.quant.of_kind.Given as goal
 
 abbrev pub invariant-loop-k : goal.invariant-loop-k

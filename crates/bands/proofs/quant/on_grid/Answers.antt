@@ -1,5 +1,5 @@
 -- `quant::on_grid` is `gridded`, case by case. Assumes nothing.
-use Rattle.std.proofs.Common.{◌∙◌, rules}
+use Rattle.std.proofs.Common.{◌∙◌}
 use Rattle.bands.proofs.LentLaws.{grid_not_four, grid_four, grid_eight, grid_else}
 use Rattle.bands.proofs.quant.on_grid.Goals as goal
 

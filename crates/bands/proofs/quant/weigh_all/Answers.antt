@@ -1,5 +1,5 @@
 -- `quant::weigh_all`: the bands of the three channels, over the grid. Assumes nothing.
-use Rattle.std.proofs.Common.{◌∙◌, rules}
+use Rattle.std.proofs.Common.{◌∙◌}
 use Rattle.bands.proofs.QuantLaws.{table_is}
 use Rattle.bands.proofs.quant.weigh_all.Goals as goal
 

@@ -1,6 +1,6 @@
 -- `lift` meets its contract: `Lifting` is its invariant. Assumes nothing.
-use Rattle.std.proofs.Common.{arith, rules}
-use Rattle.bands.proofs.Lift.{Lifting, start, start_most, down_to, turn, done}
+use Rattle.std.proofs.Common.{arith}
+use Rattle.bands.proofs.Lift.{start, start_most, down_to, turn, done}
 use Rattle.bands.proofs.root.lift.Goals as goal
 
 pub overflow_mul-n-2 : goal.overflow_mul-n-2

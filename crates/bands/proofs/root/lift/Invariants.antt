@@ -1,6 +1,5 @@
 -- `lift` meets its contract: `Lifting` is its invariant. Assumes nothing.
-use Rattle.std.proofs.Common.{arith, rules}
-use Rattle.bands.proofs.Lift.{Lifting, start, start_most, down_to, turn, done}
+use Rattle.bands.proofs.Lift.{Lifting}
 use Rattle.bands.proofs.root.lift.Given as goal
 
 abbrev pub invariant-loop-n : goal.invariant-loop-n

@@ -1,5 +1,5 @@
 -- `root32` is `root_of`: by the bits of x. Assumes nothing.
-use Rattle.std.proofs.Common.{rules, ◌≡◌, ℕ, ◌%◌, ◌^◌, ◌<◌, ◌≤◌, Bool, not, T, ◌⊎◌, sym, ap, ◌∙◌, subst, inl, inr, arith, le-ltb}
+use Rattle.std.proofs.Common.{rules, ◌≡◌, ℕ, ◌%◌, ◌^◌, ◌<◌, Bool, not, T, sym, ap, ◌∙◌, subst, arith, le-ltb}
 use lib.Ieee.{Float, nan, binary32, fits, nan_bits, to_bits}
 use lib.Ieee.Bits.{of_bits-to_bits, to_bits-lt, nan_bits_above}
 use lib.Ieee.Compare.{differs_from_itself}

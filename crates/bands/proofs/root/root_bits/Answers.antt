@@ -1,5 +1,5 @@
 -- `root_bits` meets its contract: the two fields of the pattern give the number of units. Assumes nothing.
-use Rattle.std.proofs.Common.{sym, ◌∙◌, arith, rules}
+use Rattle.std.proofs.Common.{sym, ◌∙◌, arith}
 use Rattle.bands.proofs.RootFields.{root_low, root_high}
 use Rattle.bands.proofs.root.root_bits.Goals as goal
 

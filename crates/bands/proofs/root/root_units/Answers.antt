@@ -1,5 +1,5 @@
 -- `root_units` meets its contract: `root_bits` of `proofs/Written.antt`. Assumes nothing.
-use Rattle.std.proofs.Common.{◌≡◌, ℕ, ◌^◌, ◌<◌, sym, subst, lt_of_le_of_lt, arith, rules}
+use Rattle.std.proofs.Common.{◌≡◌, ℕ, ◌^◌, ◌<◌, sym, subst, lt_of_le_of_lt, arith}
 use Rattle.bands.specs.Root.{whole_root, IsRoot}
 use Rattle.bands.specs.Views.{Lifted}
 use Rattle.bands.proofs.Roots.{whole_is, sq_cancel}

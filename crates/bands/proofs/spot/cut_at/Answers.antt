@@ -1,5 +1,5 @@
 -- `cut_at` is `segment_of`: i is the position's index. Assumes nothing.
-use Rattle.std.proofs.Common.{ℕ, ◌+◌, List, pos, ap, rules}
+use Rattle.std.proofs.Common.{ℕ, ◌+◌, List, pos, ap}
 use lib.Ieee.{Float, binary32, sub, of_int}
 use Rattle.bands.specs.Bands.{at_of}
 use Rattle.bands.specs.declared.spot.Segment.{Segment}

@@ -1,6 +1,5 @@
 -- `distance` is `distance_of`. Assumes nothing.
 use Rattle.bands.specs.Distance.{distance_of}
-use Rattle.std.proofs.Common.{rules}
 use Rattle.bands.proofs.spot.distance.Goals as goal
 
 pub returns : goal.returns

@@ -1,5 +1,5 @@
 -- `position` is `position_of`. Assumes nothing.
-use Rattle.std.proofs.Common.{◌≡◌, ◌-◌, pos, refl, ap, rules}
+use Rattle.std.proofs.Common.{◌≡◌, ◌-◌, pos, refl, ap}
 use lib.Ieee.{Float, binary32, add, mul, div, of_int, of_bits, round, size}
 use Rattle.bands.specs.Root.{root_of, twice}
 use Rattle.bands.specs.Position.{reach_of, position_of}

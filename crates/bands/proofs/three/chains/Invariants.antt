@@ -1,8 +1,6 @@
 -- `three::chains`: every ratio has its chain, or waits for it among those from p on (`Holding`). Assumes nothing.
-use Rattle.std.proofs.Common.{ℕ, ◌+◌, ◌-◌, ◌≤◌, replicate, arith}
-use lib.ListN.{length-replicate, get_or-replicate}
-use Rattle.bands.specs.ChainTable.{Blank}
-use Rattle.bands.proofs.Tables.{Holding, holding_none, holding_more, holding_all, holding_inside, eight_near, eight_alike, eight_rooms}
+use Rattle.std.proofs.Common.{◌-◌}
+use Rattle.bands.proofs.Tables.{Holding}
 use Rattle.bands.proofs.three.chains.Given as goal
 
 abbrev pub invariant-loop-p : goal.invariant-loop-p

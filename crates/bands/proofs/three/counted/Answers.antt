@@ -1,5 +1,4 @@
 -- `three::counted` meets its contract. Assumes nothing.
-use Rattle.std.proofs.Common.{rules}
 use Rattle.bands.proofs.ChainLists.{cond_lt, cond_le}
 use Rattle.bands.proofs.three.counted.Goals as goal
 

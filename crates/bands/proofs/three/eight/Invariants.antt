@@ -1,6 +1,6 @@
 -- `three::eight`: those before i are there. Assumes nothing.
-use Rattle.std.proofs.Common.{◌+◌, ◌-◌, get_or, refl, rules}
-use Rattle.bands.proofs.TableLaws.{Building, building_none, building_more, building_all}
+use Rattle.std.proofs.Common.{◌+◌, ◌-◌, get_or}
+use Rattle.bands.proofs.TableLaws.{Building}
 use Rattle.bands.proofs.three.eight.Given as goal
 
 abbrev pub invariant-loop-i : goal.invariant-loop-i

@@ -1,5 +1,5 @@
 -- `three::finish_three` meets its contract: each second row, finished. Assumes nothing.
-use Rattle.std.proofs.Common.{ℕ, ap, ◌∙◌, rules}
+use Rattle.std.proofs.Common.{ℕ, ap, ◌∙◌}
 use Rattle.bands.specs.Views.{finished}
 use Rattle.bands.proofs.PowerLaws.{second_range}
 use Rattle.bands.proofs.three.finish_three.Goals as goal

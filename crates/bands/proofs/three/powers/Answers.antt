@@ -1,7 +1,6 @@
 -- `three::powers` meets its contract: the first rows are in the range that the second start from. Assumes nothing.
-use Rattle.std.proofs.Common.{◌≡◌, ℕ, ◌+◌, refl, le_refl, arith, lit<, rules}
-use Rattle.bands.specs.Views.{Starts}
-use Rattle.bands.proofs.Tables.{ready_links, ready_starts, ready_power}
+use Rattle.std.proofs.Common.{◌≡◌, ℕ, ◌+◌, refl, arith}
+use Rattle.bands.proofs.Tables.{ready_starts, ready_power}
 use Rattle.bands.proofs.three.powers.Goals as goal
 
 -- where the chains of the second and the third channel start
@@ -10,9 +9,6 @@ second_chain at = omega arith
 
 third_chain : (at : ℕ) → at + 1 + 34 + 34 ≡ at + 34 + 34 + 1
 third_chain at = omega arith
-
-ones : Starts 1073741824
-ones = (le_refl 1073741824, lit< tt)
 
 pub returns : goal.returns
 returns c =

@@ -1,6 +1,6 @@
 -- `three::put_chains`: j numbers of each of eight chains are laid (`Linking`). Assumes nothing.
-use Rattle.std.proofs.Common.{◌-◌, ◌∙◌, arith, rules}
-use Rattle.bands.proofs.Tables.{Linking, linking_none, linking_more, linking_all, linking_near}
+use Rattle.std.proofs.Common.{◌-◌}
+use Rattle.bands.proofs.Tables.{Linking}
 use Rattle.bands.proofs.three.put_chains.Given as goal
 
 abbrev pub invariant-loop-j : goal.invariant-loop-j

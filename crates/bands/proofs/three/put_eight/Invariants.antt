@@ -1,6 +1,6 @@
 -- `three::put_eight`: the first i of eight numbers are laid (`Scattering`). Assumes nothing.
-use Rattle.std.proofs.Common.{◌+◌, ◌-◌, ◌<◌, get_or, sym, ◌∙◌, le_of_eq, lt_of_lt_of_le, arith, rules}
-use Rattle.bands.proofs.Tables.{Scattering, scattering_none, scattering_more, scattering_all}
+use Rattle.std.proofs.Common.{◌-◌}
+use Rattle.bands.proofs.Tables.{Scattering}
 use Rattle.bands.proofs.three.put_eight.Given as goal
 
 abbrev pub invariant-loop-i : goal.invariant-loop-i

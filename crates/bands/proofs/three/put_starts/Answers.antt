@@ -1,6 +1,6 @@
 -- `three::put_starts`: exponents and starts of the ratios before p are there (`Starting`). Assumes nothing.
-use Rattle.std.proofs.Common.{◌+◌, ◌-◌, ◌*◌, ◌<◌, ◌≤◌, arith, rules}
-use Rattle.bands.proofs.Tables.{Starting, starting_none, starting_more, starting_all}
+use Rattle.std.proofs.Common.{◌+◌, ◌<◌, ◌≤◌, arith}
+use Rattle.bands.proofs.Tables.{starting_none, starting_more, starting_all}
 use Rattle.bands.proofs.three.put_starts.Goals as goal
 use Rattle.bands.proofs.three.put_starts.Goals.{In-loop-p}
 

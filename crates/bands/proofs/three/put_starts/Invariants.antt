@@ -1,6 +1,6 @@
 -- `three::put_starts`: exponents and starts of the ratios before p are there (`Starting`). Assumes nothing.
-use Rattle.std.proofs.Common.{◌+◌, ◌-◌, ◌*◌, ◌<◌, ◌≤◌, arith, rules}
-use Rattle.bands.proofs.Tables.{Starting, starting_none, starting_more, starting_all}
+use Rattle.std.proofs.Common.{◌-◌, ◌*◌}
+use Rattle.bands.proofs.Tables.{Starting}
 use Rattle.bands.proofs.three.put_starts.Given as goal
 
 abbrev pub invariant-loop-p : goal.invariant-loop-p

@@ -1,9 +1,9 @@
 -- `three::rows` meets its contract: of each chain what is left of n gives the product of the definition (`Left`). Assumes nothing.
-use Rattle.std.proofs.Common.{◌≡◌, ℕ, ◌+◌, ◌<◌, get_or, lt_of_lt_of_le, le_of_lt, arith, pow_pos}
+use Rattle.std.proofs.Common.{◌≡◌, ℕ, ◌+◌, ◌<◌, lt_of_lt_of_le, le_of_lt, arith, pow_pos}
 use lib.Count.{count_leading_zeros}
 use Rattle.bands.specs.Views.{Starts}
-use Rattle.bands.proofs.SetBits.{Left, left_all, left_none, left_less, left_few, unit_pos}
-use Rattle.bands.proofs.Tables.{link_inside, link_on, link_fits}
+use Rattle.bands.proofs.SetBits.{left_all, left_none, left_less, left_few, unit_pos}
+use Rattle.bands.proofs.Tables.{link_on, link_fits}
 use Rattle.bands.proofs.three.rows.Goals as goal
 use Rattle.bands.proofs.three.rows.Goals.{In-loop-left}
 

@@ -1,9 +1,6 @@
 -- `three::rows` meets its contract: of each chain what is left of n gives the product of the definition (`Left`). Assumes nothing.
-use Rattle.std.proofs.Common.{◌≡◌, ℕ, ◌+◌, ◌<◌, get_or, lt_of_lt_of_le, le_of_lt, arith, pow_pos}
-use lib.Count.{count_leading_zeros}
-use Rattle.bands.specs.Views.{Starts}
-use Rattle.bands.proofs.SetBits.{Left, left_all, left_none, left_less, left_few, unit_pos}
-use Rattle.bands.proofs.Tables.{link_inside, link_on, link_fits}
+use Rattle.std.proofs.Common.{◌+◌, get_or}
+use Rattle.bands.proofs.SetBits.{Left}
 use Rattle.bands.proofs.three.rows.Given as goal
 
 abbrev pub invariant-loop-left : goal.invariant-loop-left

@@ -1,5 +1,5 @@
 -- `three::seconds` meets its contract: where the exponents agree, one loop has all three. Assumes nothing.
-use Rattle.std.proofs.Common.{ℕ, ap, ◌∙◌, rules}
+use Rattle.std.proofs.Common.{ℕ, ap, ◌∙◌}
 use Rattle.bands.specs.Power.{turns}
 use Rattle.bands.proofs.PowerLaws.{second_is}
 use Rattle.bands.proofs.Tables.{top_links}

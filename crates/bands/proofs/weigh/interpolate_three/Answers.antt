@@ -1,5 +1,5 @@
 -- `weigh::interpolate_three` is `segment_weight` of each segment: n is one, since the fractions are. Assumes nothing.
-use Rattle.std.proofs.Common.{◌≡◌, ℕ, ◌+◌, List, sym, refl, ap, ◌∙◌, rules}
+use Rattle.std.proofs.Common.{◌≡◌, ℕ, ◌+◌, List, sym, refl, ap, ◌∙◌}
 use lib.Ieee.{Float, binary32, mul, div}
 use lib.Ieee.Fits.{div-fits}
 use Rattle.bands.specs.Power.{P}

@@ -1,13 +1,13 @@
 -- `weigh::weigh_three` is `between` of each channel. Assumes nothing.
-use Rattle.std.proofs.Common.{◌≡◌, ℕ, ◌+◌, ◌*◌, ◌<◌, ◌≤◌, List, sym, ap, ◌∙◌, subst, arith, lit<, rules}
+use Rattle.std.proofs.Common.{◌≡◌, ℕ, ◌+◌, ◌*◌, ◌<◌, ◌≤◌, List, sym, ap, ◌∙◌, subst, arith, lit<}
 use lib.Ieee.{Float, binary32, div}
 use Rattle.bands.specs.Bands.{at_of}
-use Rattle.bands.specs.Position.{index_of, fraction_of}
-use Rattle.bands.specs.Views.{Stepped, segment_of, band_in}
+use Rattle.bands.specs.Position.{index_of}
+use Rattle.bands.specs.Views.{segment_of, band_in}
 use Rattle.bands.specs.ChainTable.{Holds, Held, ratio_at}
 use Rattle.bands.specs.Weights.{segment_weight, between}
 use Rattle.bands.specs.declared.spot.Segment.{Segment}
-use Rattle.bands.proofs.Cells.{stepped, segment_between}
+use Rattle.bands.proofs.Cells.{segment_between}
 use Rattle.bands.proofs.Tables.{held_at}
 use Rattle.bands.proofs.weigh.weigh_three.Goals as goal
 

@@ -1,5 +1,4 @@
 -- `whole::over` meets its contract. Assumes nothing.
-use Rattle.std.proofs.Common.{rules}
 use Rattle.bands.proofs.ChainLists.{cond_lt, cond_le}
 use Rattle.bands.proofs.whole.over.Goals as goal
 

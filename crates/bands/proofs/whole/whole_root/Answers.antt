@@ -1,6 +1,5 @@
 -- `whole_root` is `whole_root`: each turn leaves one digit less to come (`Down`). Assumes nothing.
-use Rattle.std.proofs.Common.{◌^◌, ltb, refl, lit<, lit≤, rules}
-use Rattle.bands.specs.Views.{Down}
+use Rattle.std.proofs.Common.{◌^◌, ltb, refl, lit<, lit≤}
 use Rattle.bands.proofs.BringDown.{brings, fourfold, byte, turn, down_start, down_end}
 use Rattle.bands.proofs.whole.whole_root.Goals as goal
 

@@ -1,7 +1,6 @@
 -- `whole_root` is `whole_root`: each turn leaves one digit less to come (`Down`). Assumes nothing.
-use Rattle.std.proofs.Common.{◌^◌, ltb, refl, lit<, lit≤, rules}
+use Rattle.std.proofs.Common.{◌^◌}
 use Rattle.bands.specs.Views.{Down}
-use Rattle.bands.proofs.BringDown.{brings, fourfold, byte, turn, down_start, down_end}
 use Rattle.bands.proofs.whole.whole_root.Given as goal
 
 abbrev pub invariant-loop-n : goal.invariant-loop-n
