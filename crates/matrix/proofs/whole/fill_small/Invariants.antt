@@ -1,0 +1,13 @@
+-- `whole::fill_small`: place by place (`Laid`). Assumes nothing.
+use Rattle.std.proofs.Common.{◌-◌, ◌/◌, ◌%◌, ◌<◌, ◌≤◌, ◌∙◌, arith, lit<, lit≤, rules}
+use Rattle.matrix.specs.Weight.{rule}
+use Rattle.matrix.proofs.Ruled.{small_whole}
+use Rattle.bands.specs.Grids.{Laid}
+use Rattle.bands.proofs.Laid.{laid_none, laid_on, laid_all}
+use Rattle.matrix.proofs.whole.fill_small.Given as goal
+
+abbrev pub invariant-loop-q : goal.invariant-loop-q
+invariant-loop-q l = (l.q ≤ 64) × Laid (λ k j. rule l.n l.kind k (j / 8) (j % 8) l.n.mode) 64 l.q l.out
+
+abbrev pub decreases-loop-q : goal.decreases-loop-q
+decreases-loop-q l = 64 - l.q
