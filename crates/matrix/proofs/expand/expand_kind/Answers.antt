@@ -29,31 +29,11 @@ passed c = row_done _ _ (sym c.check_row.ensures ∙ c.enum_told-1.given.1)
 slots : (c : In-Done) → let a = c.args in length a.row.now ≡ 128
 slots c = (given _ _ _ _ _ (lent c)).slots
 
-pub returns-then-not-lent_right : goal.returns-then-not-lent_right
-returns-then-not-lent_right c =
-    let a = c.args in
-    (says_lent a.kind a.row.now a.samples.now _ _ (sym c.lent_right.ensures ∙ not-true _ c.if-not-lent_right.true), (refl, refl))
-
-pub returns-in_default : goal.returns-in_default
-returns-in_default c =
-    let a = c.args in
-    let e = sym c.lent_right.ensures ∙ not-false _ c.if-not-lent_right.false in
-    let g = given a.kind a.row.now _ _ _ e in
-    (says_row a.kind a.row.now a.samples.now _ _ e (row_other _ _ _ c.check_row.ensures (omega (arith, g.kind)) g.slots c.in_default.keys2), (refl, refl))
-
 pub bounds-row-0 : goal.bounds-row-0
 bounds-row-0 c = omega (arith, slots c.before)
 
 pub bounds-row-3 : goal.bounds-row-3
 bounds-row-3 c = omega (arith, slots c.before.before.before)
-
--- DENOM, and what is known where it is not given
-pub returns-then-odd_denominator : goal.returns-then-odd_denominator
-returns-then-odd_denominator c =
-    let told = c.before.before.before.before.before in
-    let a = told.args in
-    let raw = c.if-row-eq7.true in
-    (says_denom a.kind a.row.now a.samples.now _ _ (lent told) (passed told) (raw_row_lem a.row.now raw ∙ sym c.odd_denominator.ensures ∙ c.if-odd_denominator.true), (refl, refl))
 
 above : (c : Else-odd_denominator) → let a = c.args in odd_row a.row.now ≡ false
 above c = raw_row_lem _ c.if-row-eq7.true ∙ sym c.odd_denominator.ensures ∙ c.if-odd_denominator.false
@@ -114,3 +94,23 @@ returns c =
         f.ensures.1.1 ∙ ap (λ (n : Numbers). leaves f.result (mirror k (inverse (rules_of n k))) a.transposed.now) m ∙ ap (λ (x : List Float). leaves f.result (mirror k x) a.transposed.now) w,
       ),
     )
+
+pub returns-then-not-lent_right : goal.returns-then-not-lent_right
+returns-then-not-lent_right c =
+    let a = c.args in
+    (says_lent a.kind a.row.now a.samples.now _ _ (sym c.lent_right.ensures ∙ not-true _ c.if-not-lent_right.true), (refl, refl))
+
+pub returns-in_default : goal.returns-in_default
+returns-in_default c =
+    let a = c.args in
+    let e = sym c.lent_right.ensures ∙ not-false _ c.if-not-lent_right.false in
+    let g = given a.kind a.row.now _ _ _ e in
+    (says_row a.kind a.row.now a.samples.now _ _ e (row_other _ _ _ c.check_row.ensures (omega (arith, g.kind)) g.slots c.in_default.keys2), (refl, refl))
+
+-- DENOM, and what is known where it is not given
+pub returns-then-odd_denominator : goal.returns-then-odd_denominator
+returns-then-odd_denominator c =
+    let told = c.before.before.before.before.before in
+    let a = told.args in
+    let raw = c.if-row-eq7.true in
+    (says_denom a.kind a.row.now a.samples.now _ _ (lent told) (passed told) (raw_row_lem a.row.now raw ∙ sym c.odd_denominator.ensures ∙ c.if-odd_denominator.true), (refl, refl))

@@ -9,6 +9,12 @@ use Rattle.matrix.proofs.lists.band_answer.Goals as goal
 pub loop-c-init : goal.loop-c-init
 loop-c-init c = (omega arith, bands_none c.args.n c.args.kind)
 
+pub returns : goal.returns
+returns c =
+    let a = c.args in
+    let v = c.loop-c in
+    let e : v.c ≡ 3 = omega arith in sym (subst (λ (k : ℕ). band_answer a.n a.kind k ≡ Done) e v.invariant.1)
+
 pub returns-then-not-is_done : goal.returns-then-not-is_done
 returns-then-not-is_done c =
     let a = c.args in
@@ -26,9 +32,3 @@ loop-c-preserved c =
     let a = c.args in
     let v = c.loop-c in
     (omega arith, bands_more a.n a.kind v.c v.invariant.1 _ _ c.list_answer-a.ensures (sym c.is_done.ensures ∙ not-false _ c.if-not-is_done.false) c.list_answer-b.ensures (sym c.is_done-in-loop-c.ensures ∙ not-false _ c.if-not-is_done-2.false))
-
-pub returns : goal.returns
-returns c =
-    let a = c.args in
-    let v = c.loop-c in
-    let e : v.c ≡ 3 = omega arith in sym (subst (λ (k : ℕ). band_answer a.n a.kind k ≡ Done) e v.invariant.1)

@@ -22,13 +22,6 @@ nonzero_rem-result c =
     let e = h.1 in
     omega (arith, c.if-ok-straight.true)
 
-pub returns-then-ok-straight : goal.returns-then-ok-straight
-returns-then-ok-straight c =
-    let a = c.args in (
-      weight_refused a.kind a.straight.now c.passes-ok.result c.area-area.result c.passes-ok.ensures c.area-area.ensures c.if-ok-straight.true,
-      (c.clear.ensures, c.clear-then-ok-straight.ensures),
-    )
-
 pub turn-requires : goal.turn-requires
 turn-requires c =
     let a = c.args in
@@ -42,10 +35,3 @@ turn-requires c =
     let e = c.width.ensures in
     let f = c.height.ensures in
     (omega arith, omega arith, omega arith, omega arith, omega arith)
-
-pub returns : goal.returns
-returns c =
-    let a = c.args in (
-      weight_done a.kind a.straight.now _ c.passes-ok.ensures c.if-ok-straight.false,
-      (refl, whole_turned a.kind _ _ a.straight.now _ c.width.ensures c.height.ensures c.turn.ensures),
-    )

@@ -7,12 +7,3 @@ use Rattle.matrix.proofs.small.layer_at.Goals as goal
 
 pub returns-then-edge : goal.returns-then-edge
 returns-then-edge c = c.number.ensures ∙ layer_edge (number_of c.args.n c.args.c) c.args.d c.args.i c.args.y c.args.x c.args.other (sym c.edge.ensures ∙ c.if-edge.true)
-
-pub returns-then-not-within : goal.returns-then-not-within
-returns-then-not-within c = layer_row (number_of c.args.n c.args.c) c.args.d c.args.i c.args.y c.args.x c.args.other (sym c.edge.ensures ∙ c.if-edge.false) (sym c.within.ensures ∙ not-true _ c.if-not-within.true)
-
-pub returns-then-not-within-2 : goal.returns-then-not-within-2
-returns-then-not-within-2 c = layer_column (number_of c.args.n c.args.c) c.args.d c.args.i c.args.y c.args.x c.args.other (sym c.edge.ensures ∙ c.if-edge.false) (sym c.within-2.ensures ∙ not-true _ c.if-not-within-2.true)
-
-pub returns : goal.returns
-returns c = c.number-2.ensures ∙ layer_inner (number_of c.args.n c.args.c) c.args.d c.args.i c.args.y c.args.x c.args.other (sym c.edge.ensures ∙ c.if-edge.false) (sym c.within.ensures ∙ not-false _ c.if-not-within.false) (sym c.within-2.ensures ∙ not-false _ c.if-not-within-2.false)

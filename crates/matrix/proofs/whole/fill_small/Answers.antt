@@ -21,12 +21,6 @@ small_at-v2-requires c = let h = c.requires in (h.0, h.1, h.2, lit< tt, c.loop-q
 pub put-requires : goal.put-requires
 put-requires c = (c.loop-q-test.true, c.loop-q.invariant.1.long, lit≤ tt)
 
-pub loop-q-preserved : goal.loop-q-preserved
-loop-q-preserved c =
-    let l = c.loop-q in
-    let t : l.q < 64 = c.loop-q-test.true in
-    (omega arith, laid_on (λ k j. rule c.args.n c.args.kind k (j / 8) (j % 8) c.args.n.mode) l.out _ 64 l.q _ _ _ t l.invariant.1 c.put.ensures c.before.before.before.before.before.before.Small-at.ensures c.small_at-v1.ensures c.small_at-v2.ensures)
-
 pub returns : goal.returns
 returns c =
     let r = c.requires.0 in
