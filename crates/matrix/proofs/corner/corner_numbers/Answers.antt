@@ -1,8 +1,6 @@
 -- `corner::corner_numbers`: the numbers from the front. Assumes nothing.
-use Rattle.std.proofs.Common.{◌≡◌, ℕ, ◌+◌, ◌-◌, ◌/◌, ◌%◌, ◌≤◌, refl, arith, rules}
-use lib.Seq.{sets}
+use Rattle.std.proofs.Common.{◌≡◌, ℕ, ◌+◌, ◌/◌, ◌%◌, refl, arith}
 use lib.Ieee.{Float}
-use Rattle.bands.specs.Table.{tab}
 use Rattle.matrix.specs.declared.numbers.Numbers.{Numbers}
 use Rattle.matrix.specs.Numbers.{number_of}
 use Rattle.matrix.proofs.Front.{front_on, front_all}

@@ -1,5 +1,5 @@
 -- `corner::mode5_at`. Assumes nothing.
-use Rattle.std.proofs.Common.{◌+◌, ◌*◌, ◌/◌, ◌%◌, ◌<◌, ◌∙◌, arith, rules}
+use Rattle.std.proofs.Common.{◌+◌, ◌*◌, ◌/◌, ◌%◌, ◌<◌, ◌∙◌, arith}
 use Rattle.matrix.specs.Numbers.{number_of}
 use Rattle.matrix.proofs.Corners.{cell_of, five_8, five_1, five_row, five_column, five_corner}
 use Rattle.matrix.proofs.corner.mode5_at.Goals as goal

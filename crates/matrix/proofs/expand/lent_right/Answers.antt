@@ -1,6 +1,5 @@
 -- `expand::lent_right` by its tests in a row. Assumes nothing.
 use Rattle.matrix.proofs.Lending.{no_kind, no_row, no_first, no_second, by_samples}
-use Rattle.std.proofs.Common.{rules}
 use Rattle.matrix.proofs.expand.lent_right.Goals as goal
 
 pub returns-then-kind-gt16 : goal.returns-then-kind-gt16

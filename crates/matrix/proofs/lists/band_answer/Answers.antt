@@ -1,6 +1,5 @@
 -- `bands::band_answer`: channel after channel. Assumes nothing.
-use Rattle.std.proofs.Common.{◌≡◌, ℕ, ◌-◌, ◌≤◌, sym, ◌∙◌, subst, arith, rules}
-use borrow.Author.Tests.{not-true, not-false}
+use Rattle.std.proofs.Common.{◌≡◌, ℕ, sym, ◌∙◌, subst, arith}
 use Rattle.matrix.specs.declared.Expanded.TheVariants.{Done}
 use Rattle.matrix.specs.Expanded.{band_answer}
 use Rattle.matrix.proofs.Replies.{bands_none, bands_first, bands_second, bands_more}
@@ -19,16 +18,16 @@ pub returns-then-not-is_done : goal.returns-then-not-is_done
 returns-then-not-is_done c =
     let a = c.args in
     let v = c.loop-c in
-    bands_first a.n a.kind v.c v.invariant.1 _ c.loop-c-test.true c.list_answer-a.ensures (sym c.is_done.ensures ∙ not-true _ c.if-not-is_done.true)
+    bands_first a.n a.kind v.c v.invariant.1 _ c.loop-c-test.true c.list_answer-a.ensures (sym c.is_done.ensures ∙ c.if-not-is_done.true)
 
 pub returns-then-not-is_done-2 : goal.returns-then-not-is_done-2
 returns-then-not-is_done-2 c =
     let a = c.args in
     let v = c.loop-c in
-    bands_second a.n a.kind v.c v.invariant.1 _ _ c.loop-c-test.true c.list_answer-a.ensures (sym c.is_done.ensures ∙ not-false _ c.if-not-is_done.false) c.list_answer-b.ensures (sym c.is_done-in-loop-c.ensures ∙ not-true _ c.if-not-is_done-2.true)
+    bands_second a.n a.kind v.c v.invariant.1 _ _ c.loop-c-test.true c.list_answer-a.ensures (sym c.is_done.ensures ∙ c.if-not-is_done.false) c.list_answer-b.ensures (sym c.is_done-in-loop-c.ensures ∙ c.if-not-is_done-2.true)
 
 pub loop-c-preserved : goal.loop-c-preserved
 loop-c-preserved c =
     let a = c.args in
     let v = c.loop-c in
-    (omega arith, bands_more a.n a.kind v.c v.invariant.1 _ _ c.list_answer-a.ensures (sym c.is_done.ensures ∙ not-false _ c.if-not-is_done.false) c.list_answer-b.ensures (sym c.is_done-in-loop-c.ensures ∙ not-false _ c.if-not-is_done-2.false))
+    (omega arith, bands_more a.n a.kind v.c v.invariant.1 _ _ c.list_answer-a.ensures (sym c.is_done.ensures ∙ c.if-not-is_done.false) c.list_answer-b.ensures (sym c.is_done-in-loop-c.ensures ∙ c.if-not-is_done-2.false))

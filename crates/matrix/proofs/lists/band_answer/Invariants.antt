@@ -1,9 +1,7 @@
 -- `bands::band_answer`: channel after channel. Assumes nothing.
-use Rattle.std.proofs.Common.{◌≡◌, ℕ, ◌-◌, ◌≤◌, sym, ◌∙◌, subst, arith, rules}
-use borrow.Author.Tests.{not-true, not-false}
+use Rattle.std.proofs.Common.{◌≡◌, ◌-◌, ◌≤◌}
 use Rattle.matrix.specs.declared.Expanded.TheVariants.{Done}
 use Rattle.matrix.specs.Expanded.{band_answer}
-use Rattle.matrix.proofs.Replies.{bands_none, bands_first, bands_second, bands_more}
 use Rattle.matrix.proofs.lists.band_answer.Given as goal
 
 abbrev pub invariant-loop-c : goal.invariant-loop-c

@@ -1,5 +1,5 @@
 -- `lists::channel_sound`: the channel's part of the list. Assumes nothing.
-use Rattle.std.proofs.Common.{◌≡◌, ◌+◌, ◌*◌, ◌≤◌, length, arith, rules}
+use Rattle.std.proofs.Common.{◌≡◌, ◌+◌, ◌*◌, ◌≤◌, length, arith}
 use Rattle.bands.proofs.QuantLaws.{channel_fits, sound_part}
 use Rattle.matrix.proofs.lists.channel_sound.Goals as goal
 

@@ -1,5 +1,5 @@
 -- `lists::list_answer` by its two cases. Assumes nothing.
-use Rattle.std.proofs.Common.{◌≡◌, ◌≤◌, sym, arith, rules}
+use Rattle.std.proofs.Common.{◌≡◌, ◌≤◌, sym, arith}
 use Rattle.matrix.specs.Numbers.{count}
 use Rattle.matrix.proofs.Pick.{count_le}
 use Rattle.matrix.proofs.Listed.{listed_length, listed_sound}

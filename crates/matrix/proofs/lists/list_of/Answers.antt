@@ -1,8 +1,6 @@
 -- `lists::list_of`: the first j numbers stand in front. Assumes nothing.
-use Rattle.std.proofs.Common.{◌≡◌, ℕ, ◌-◌, ◌*◌, ◌<◌, ◌≤◌, false, length, replicate, pos, refl, ap, ◌∙◌, subst, arith, length-set, rules}
-use lib.Seq.{sets}
+use Rattle.std.proofs.Common.{◌≡◌, ℕ, ◌*◌, ◌<◌, ◌≤◌, false, replicate, pos, refl, ap, ◌∙◌, subst, arith, length-set}
 use lib.Ieee.{fin, of_bits}
-use Rattle.bands.specs.Table.{tab}
 use Rattle.matrix.specs.Numbers.{band_number, list_of, count}
 use Rattle.matrix.proofs.Pick.{count_le}
 use Rattle.matrix.proofs.Front.{front_on, front_take}

@@ -1,5 +1,5 @@
 -- `numbers::band_number`: where the number stands, and whether it is times 64. Assumes nothing.
-use Rattle.std.proofs.Common.{ℕ, ◌+◌, ◌%◌, ◌<◌, Bool, get_or, ap, ◌∙◌, arith, rules}
+use Rattle.std.proofs.Common.{ℕ, ◌+◌, ◌%◌, ◌<◌, Bool, get_or, ap, ◌∙◌, arith}
 use lib.Ieee.{nan}
 use Rattle.matrix.specs.Numbers.{times64, opening, begins, band_number}
 use Rattle.matrix.proofs.Pick.{at_list}

@@ -1,5 +1,5 @@
 -- `numbers::begins_of` meets its contract. Assumes nothing.
-use Rattle.std.proofs.Common.{ℕ, ◌+◌, ◌*◌, ap, ◌∙◌, arith, rules}
+use Rattle.std.proofs.Common.{ℕ, ◌+◌, ◌*◌, ap, ◌∙◌, arith}
 use Rattle.matrix.proofs.Pick.{each_small, begins_first, begins_second}
 use Rattle.matrix.proofs.numbers.begins_of.Goals as goal
 

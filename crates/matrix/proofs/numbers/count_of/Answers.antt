@@ -1,6 +1,5 @@
 -- `numbers::count_of` meets its contract. Assumes nothing.
 use Rattle.matrix.proofs.Pick.{count_first, count_second}
-use Rattle.std.proofs.Common.{rules}
 use Rattle.matrix.proofs.numbers.count_of.Goals as goal
 
 pub returns-then-l-eq0 : goal.returns-then-l-eq0

@@ -1,10 +1,8 @@
 -- `numbers::default_numbers`: the values from the front. Assumes nothing.
-use Rattle.std.proofs.Common.{◌≡◌, ℕ, ◌-◌, ◌≤◌, false, List, refl, ap, arith, rules}
+use Rattle.std.proofs.Common.{◌≡◌, ℕ, false, List, refl, ap, arith}
 use lib.Ieee.{Float}
 use Rattle.matrix.specs.declared.numbers.Numbers.{Numbers}
 use Rattle.matrix.specs.Defaults.{default_mode, default_first, default_second}
-use lib.Seq.{sets}
-use Rattle.bands.specs.Table.{tab}
 use Rattle.matrix.specs.Numbers.{default_value}
 use Rattle.matrix.proofs.Front.{front_on, front_all}
 use Rattle.matrix.proofs.numbers.default_numbers.Goals as goal

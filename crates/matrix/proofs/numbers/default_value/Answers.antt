@@ -1,7 +1,6 @@
 -- `numbers::default_value`. Assumes nothing.
 use lib.Ieee.{of_bits}
 use Rattle.matrix.proofs.Table.{past}
-use Rattle.std.proofs.Common.{rules}
 use Rattle.matrix.proofs.numbers.default_value.Goals as goal
 
 pub returns-then-i-lt51 : goal.returns-then-i-lt51

@@ -1,6 +1,5 @@
 -- `numbers::each_of` meets its contract. Assumes nothing.
 use Rattle.matrix.proofs.Pick.{each_past}
-use Rattle.std.proofs.Common.{rules}
 use Rattle.matrix.proofs.numbers.each_of.Goals as goal
 
 pub returns-else-mode-lt6 : goal.returns-else-mode-lt6

@@ -1,5 +1,5 @@
 -- `numbers::leads` meets its contract. Assumes nothing.
-use Rattle.matrix.proofs.Pick.{no_read, not_five, is_five}
+use Rattle.matrix.proofs.Pick.{not_five}
 use Rattle.matrix.proofs.numbers.leads.Goals as goal
 
 pub returns-then-mode-ne5 : goal.returns-then-mode-ne5

@@ -1,5 +1,5 @@
 -- `numbers::number` meets its contract. Assumes nothing.
-use Rattle.std.proofs.Common.{ℕ, ◌+◌, ◌*◌, ◌<◌, Bool, get_or, ap, ◌∙◌, arith, rules}
+use Rattle.std.proofs.Common.{ℕ, ◌+◌, ◌*◌, ◌<◌, Bool, get_or, ap, ◌∙◌, arith}
 use Rattle.matrix.proofs.Pick.{at_number}
 use lib.Ieee.{nan}
 use Rattle.matrix.specs.Numbers.{times64, leading, number_of}

@@ -1,5 +1,5 @@
 -- `numbers::numbers_of` meets its contract. Assumes nothing.
-use Rattle.std.proofs.Common.{◌∙◌, rules}
+use Rattle.std.proofs.Common.{◌∙◌}
 use Rattle.matrix.proofs.Pick.{pick_default, pick_read}
 use Rattle.matrix.proofs.numbers.numbers_of.Goals as goal
 

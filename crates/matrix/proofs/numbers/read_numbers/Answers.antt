@@ -1,11 +1,9 @@
 -- `numbers::read_numbers` meets its contract. Assumes nothing.
 -- `numbers::read_numbers`: the values from the front. Assumes nothing.
-use Rattle.std.proofs.Common.{◌≡◌, ℕ, ◌+◌, ◌-◌, ◌≤◌, true, List, get_or, refl, ap, arith, rules}
+use Rattle.std.proofs.Common.{◌≡◌, ℕ, ◌+◌, true, List, get_or, refl, ap, arith}
 use lib.Ieee.{Float}
 use Rattle.matrix.specs.declared.numbers.Numbers.{Numbers}
-use lib.Seq.{sets}
 use Rattle.bitstream.specs.Half.{half}
-use Rattle.bands.specs.Table.{tab}
 use Rattle.matrix.proofs.Front.{front_on, front_all}
 use Rattle.matrix.proofs.numbers.read_numbers.Goals as goal
 

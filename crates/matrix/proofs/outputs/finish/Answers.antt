@@ -1,5 +1,5 @@
 -- `outputs::finish` by its two answers. Assumes nothing.
-use Rattle.std.proofs.Common.{refl, arith, rules}
+use Rattle.std.proofs.Common.{arith}
 use Rattle.transform.proofs.Laws.{width_le, area_le}
 use Rattle.matrix.proofs.Lasts.{high, places_is, area_is, weight_refused, weight_done, whole_turned}
 use Rattle.matrix.proofs.outputs.finish.Goals as goal
@@ -35,3 +35,12 @@ turn-requires c =
     let e = c.width.ensures in
     let f = c.height.ensures in
     (omega arith, omega arith, omega arith, omega arith, omega arith)
+
+pub returns-then-ok-straight-clause-answer : goal.returns-then-ok-straight-clause-answer
+returns-then-ok-straight-clause-answer c = weight_refused c.args.kind c.args.straight.now c.passes-ok.result c.area-area.result c.passes-ok.ensures c.area-area.ensures c.if-ok-straight.true
+
+pub returns-clause-answer : goal.returns-clause-answer
+returns-clause-answer c = weight_done c.args.kind c.args.straight.now _ c.passes-ok.ensures c.if-ok-straight.false
+
+pub returns-clause-transposed : goal.returns-clause-transposed
+returns-clause-transposed c = whole_turned c.args.kind _ _ c.args.straight.now _ c.width.ensures c.height.ensures c.turn.ensures

@@ -1,9 +1,7 @@
 -- `outputs::invert`: from the front. Assumes nothing.
-use Rattle.std.proofs.Common.{◌≡◌, ◌-◌, ◌<◌, ◌≤◌, length, get_or, sym, refl, ap, ◌∙◌, arith, length-set, rules}
-use lib.Seq.{sets}
+use Rattle.std.proofs.Common.{◌≡◌, ◌<◌, length, get_or, sym, refl, ap, ◌∙◌, arith, length-set}
 use lib.Ieee.{nan, binary32, div, of_bits}
 use Rattle.bands.specs.Bands.{one}
-use Rattle.bands.specs.Table.{tab}
 use Rattle.bands.proofs.TableLaws.{map_tab}
 use Rattle.matrix.proofs.Front.{front_on, front_all, front_past}
 use Rattle.matrix.proofs.outputs.invert.Goals as goal

@@ -1,11 +1,9 @@
 -- `outputs::invert`: from the front. Assumes nothing.
-use Rattle.std.proofs.Common.{◌≡◌, ◌-◌, ◌<◌, ◌≤◌, length, get_or, sym, refl, ap, ◌∙◌, arith, length-set, rules}
+use Rattle.std.proofs.Common.{◌≡◌, ◌-◌, ◌≤◌, length, get_or}
 use lib.Seq.{sets}
-use lib.Ieee.{nan, binary32, div, of_bits}
+use lib.Ieee.{nan, binary32, div}
 use Rattle.bands.specs.Bands.{one}
 use Rattle.bands.specs.Table.{tab}
-use Rattle.bands.proofs.TableLaws.{map_tab}
-use Rattle.matrix.proofs.Front.{front_on, front_all, front_past}
 use Rattle.matrix.proofs.outputs.invert.Given as goal
 
 abbrev pub invariant-loop-i : goal.invariant-loop-i

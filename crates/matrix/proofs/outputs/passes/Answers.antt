@@ -1,6 +1,5 @@
 -- `outputs::passes`: the first i pass. Assumes nothing.
-use Rattle.std.proofs.Common.{◌≡◌, ◌-◌, ◌<◌, ◌≤◌, not, length, sym, ap, ◌∙◌, arith, rules}
-use Rattle.transform.specs.First.{before}
+use Rattle.std.proofs.Common.{◌<◌, not, length, sym, ap, ◌∙◌, arith}
 use Rattle.transform.proofs.FirstLaws.{before_none, before_more}
 use Rattle.matrix.specs.Mirror.{passing}
 use Rattle.matrix.proofs.Passed.{stops, ends}

@@ -1,5 +1,5 @@
 -- `outputs::turn` meets its contract. The invariant: the first l lines are the straight columns that they show. Assumes nothing.
-use Rattle.std.proofs.Common.{◌≡◌, ℕ, ◌+◌, ◌-◌, ◌*◌, ◌≤◌, length, get_or, sym, refl, ap, ◌∙◌, mul_assoc, add-mul, one-mul, zero-mul, arith, rules}
+use Rattle.std.proofs.Common.{◌≡◌, ℕ, ◌+◌, ◌*◌, get_or, sym, refl, ap, ◌∙◌, mul_assoc, add-mul, one-mul, zero-mul, arith, rules}
 use lib.Seq.{sets}
 use lib.Ieee.{nan}
 use Rattle.bands.specs.Table.{tab}

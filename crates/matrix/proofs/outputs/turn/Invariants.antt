@@ -1,10 +1,9 @@
 -- `outputs::turn` meets its contract. The invariant: the first l lines are the straight columns that they show. Assumes nothing.
-use Rattle.std.proofs.Common.{◌≡◌, ℕ, ◌+◌, ◌-◌, ◌*◌, ◌≤◌, length, get_or, sym, refl, ap, ◌∙◌, mul_assoc, add-mul, one-mul, zero-mul, arith, rules}
+use Rattle.std.proofs.Common.{◌≡◌, ◌-◌, ◌*◌, ◌≤◌, length, get_or}
 use lib.Seq.{sets}
 use lib.Ieee.{nan}
 use Rattle.bands.specs.Table.{tab}
 use Rattle.matrix.specs.Mirror.{turned}
-use Rattle.matrix.proofs.Front.{front_next, front_long, front_all}
 use Rattle.matrix.proofs.outputs.turn.Given as goal
 
 abbrev pub invariant-loop-l : goal.invariant-loop-l

@@ -1,5 +1,5 @@
 -- `outputs::turn_line` meets its contract. The invariant: the first y places of the line are those of the column. Assumes nothing.
-use Rattle.std.proofs.Common.{◌≡◌, ℕ, ◌+◌, ◌-◌, ◌*◌, ◌/◌, ◌%◌, ◌<◌, ◌≤◌, length, get_or, sym, refl, ap, ◌∙◌, arith, length-set, rules}
+use Rattle.std.proofs.Common.{◌≡◌, ℕ, ◌+◌, ◌*◌, ◌/◌, ◌%◌, ◌<◌, get_or, sym, refl, ap, ◌∙◌, arith, length-set}
 use lib.Seq.{sets}
 use lib.Ieee.{nan}
 use Rattle.bands.specs.Table.{tab}

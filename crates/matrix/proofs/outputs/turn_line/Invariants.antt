@@ -1,11 +1,9 @@
 -- `outputs::turn_line` meets its contract. The invariant: the first y places of the line are those of the column. Assumes nothing.
-use Rattle.std.proofs.Common.{◌≡◌, ℕ, ◌+◌, ◌-◌, ◌*◌, ◌/◌, ◌%◌, ◌<◌, ◌≤◌, length, get_or, sym, refl, ap, ◌∙◌, arith, length-set, rules}
+use Rattle.std.proofs.Common.{◌≡◌, ◌+◌, ◌-◌, ◌*◌, ◌/◌, ◌%◌, ◌≤◌, length, get_or}
 use lib.Seq.{sets}
 use lib.Ieee.{nan}
 use Rattle.bands.specs.Table.{tab}
-use Rattle.bands.proofs.TableLaws.{step_on}
 use Rattle.matrix.specs.Mirror.{turned}
-use Rattle.matrix.proofs.Turned.{line_in, line_at, line_lt}
 use Rattle.matrix.proofs.outputs.turn_line.Given as goal
 
 abbrev pub invariant-loop-y : goal.invariant-loop-y

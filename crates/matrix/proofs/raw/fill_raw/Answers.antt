@@ -1,8 +1,6 @@
 -- `raw::fill_raw` meets its contract. The invariant: the first i weights stand from `start` on. Assumes nothing.
-use Rattle.std.proofs.Common.{◌≡◌, ◌-◌, ◌≤◌, length, get_or, ℤ, pos, sym, refl, ap, ◌∙◌, arith, length-set, w32}
-use lib.Seq.{sets}
+use Rattle.std.proofs.Common.{◌≡◌, length, get_or, ℤ, pos, sym, ap, ◌∙◌, arith, length-set, w32}
 use mir.ValLaws.{to_z-of_z}
-use Rattle.bands.specs.Table.{tab}
 use Rattle.matrix.specs.Raw.{weight_of}
 use Rattle.bands.proofs.TableLaws.{map_tab}
 use Rattle.matrix.proofs.Front.{front_on, front_all}

@@ -1,5 +1,5 @@
 -- `outputs::weight` meets its contract: the callee reads the sample back from its bits, which is the sample, since it fits. Assumes nothing.
-use Rattle.std.proofs.Common.{ℤ, ap, ◌∙◌, w32, rules}
+use Rattle.std.proofs.Common.{ℤ, ap, ◌∙◌, w32}
 use lib.Ieee.{Float, binary32, mul, of_int}
 use mir.ValLaws.{to_z-of_z}
 use Rattle.matrix.specs.Raw.{weight_of}

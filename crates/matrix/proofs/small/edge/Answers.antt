@@ -1,6 +1,5 @@
 -- `small::edge` by its cases. Assumes nothing.
 use Rattle.matrix.proofs.Modes.{edge_row, edge_column, edge_none}
-use Rattle.std.proofs.Common.{rules}
 use Rattle.matrix.proofs.small.edge.Goals as goal
 
 pub returns-then-y-d : goal.returns-then-y-d

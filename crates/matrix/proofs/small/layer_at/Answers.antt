@@ -1,8 +1,7 @@
 -- `small::layer_at` by its cases. Assumes nothing.
-use Rattle.std.proofs.Common.{sym, ◌∙◌, rules}
+use Rattle.std.proofs.Common.{sym, ◌∙◌}
 use Rattle.matrix.specs.Numbers.{number_of}
-use Rattle.matrix.proofs.Modes.{layer_edge, layer_row, layer_column, layer_inner}
-use borrow.Author.Tests.{not-true, not-false}
+use Rattle.matrix.proofs.Modes.{layer_edge}
 use Rattle.matrix.proofs.small.layer_at.Goals as goal
 
 pub returns-then-edge : goal.returns-then-edge

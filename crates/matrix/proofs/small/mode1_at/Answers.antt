@@ -1,5 +1,5 @@
 -- `small::mode1_at` by its cases. Assumes nothing.
-use Rattle.std.proofs.Common.{◌∙◌, rules}
+use Rattle.std.proofs.Common.{◌∙◌}
 use lib.Ieee.{of_bits}
 use Rattle.matrix.specs.Numbers.{number_of}
 use Rattle.matrix.proofs.Modes.{one_0, one_1, one_8, one_9, one_else}

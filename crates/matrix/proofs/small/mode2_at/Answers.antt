@@ -1,5 +1,5 @@
 -- `small::mode2_at`: three layers. Assumes nothing.
-use Rattle.std.proofs.Common.{ap, ◌∙◌, rules}
+use Rattle.std.proofs.Common.{ap, ◌∙◌}
 use lib.Ieee.{of_bits}
 use Rattle.matrix.specs.Numbers.{number_of}
 use Rattle.matrix.specs.Weight.{layer, mode2}

@@ -1,5 +1,5 @@
 -- `small::mode4_at` by its cases. Assumes nothing.
-use Rattle.std.proofs.Common.{ap, ◌∙◌, rules}
+use Rattle.std.proofs.Common.{ap, ◌∙◌}
 use lib.Ieee.{Float, binary32, div}
 use Rattle.matrix.specs.Numbers.{number_of}
 use Rattle.matrix.proofs.Modes.{four_8, four_else}

@@ -1,6 +1,5 @@
 -- `small::within` by its cases. Assumes nothing.
 use Rattle.matrix.proofs.Modes.{out_of, in_from}
-use Rattle.std.proofs.Common.{rules}
 use Rattle.matrix.proofs.small.within.Goals as goal
 
 pub returns-then-x-d : goal.returns-then-x-d

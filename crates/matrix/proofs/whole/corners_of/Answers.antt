@@ -1,5 +1,5 @@
 -- `whole::corners_of`: the table of those that are interpolated, with four put into it. Assumes nothing.
-use Rattle.std.proofs.Common.{ap, ◌∙◌, rules}
+use Rattle.std.proofs.Common.{ap, ◌∙◌}
 use lib.Ieee.{of_bits}
 use Rattle.bands.specs.Freqs.{freq_table}
 use Rattle.matrix.proofs.Corners.{with_number, corners_are}

@@ -1,5 +1,5 @@
 -- `whole::eight_of` in modes 4 and 5. Assumes nothing.
-use Rattle.std.proofs.Common.{ℕ, ◌<◌, ◌≤◌, arith, rules}
+use Rattle.std.proofs.Common.{ℕ, ◌<◌, ◌≤◌, arith}
 use Rattle.matrix.proofs.Ruled.{eight_grid}
 use Rattle.matrix.proofs.whole.eight_of.Goals as goal
 

@@ -1,5 +1,5 @@
 -- `whole::fill_rules` by its two cases. Assumes nothing.
-use Rattle.std.proofs.Common.{◌<◌, ◌≤◌, ◌∙◌, arith, rules}
+use Rattle.std.proofs.Common.{◌<◌, ◌≤◌, ◌∙◌, arith}
 use Rattle.matrix.proofs.Ruled.{grid_whole, whole_grid, small_places}
 use Rattle.matrix.proofs.whole.fill_rules.Goals as goal
 

@@ -1,9 +1,8 @@
 -- `whole::fill_small`: place by place (`Laid`). Assumes nothing.
-use Rattle.std.proofs.Common.{◌-◌, ◌/◌, ◌%◌, ◌<◌, ◌≤◌, ◌∙◌, arith, lit<, lit≤, rules}
+use Rattle.std.proofs.Common.{◌/◌, ◌%◌, ◌∙◌, arith, lit<, lit≤}
 use Rattle.matrix.specs.Weight.{rule}
 use Rattle.matrix.proofs.Ruled.{small_whole}
-use Rattle.bands.specs.Grids.{Laid}
-use Rattle.bands.proofs.Laid.{laid_none, laid_on, laid_all}
+use Rattle.bands.proofs.Laid.{laid_none, laid_all}
 use Rattle.matrix.proofs.whole.fill_small.Goals as goal
 
 pub loop-q-init : goal.loop-q-init

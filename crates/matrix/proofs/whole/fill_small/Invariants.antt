@@ -1,9 +1,7 @@
 -- `whole::fill_small`: place by place (`Laid`). Assumes nothing.
-use Rattle.std.proofs.Common.{◌-◌, ◌/◌, ◌%◌, ◌<◌, ◌≤◌, ◌∙◌, arith, lit<, lit≤, rules}
+use Rattle.std.proofs.Common.{◌-◌, ◌/◌, ◌%◌, ◌≤◌}
 use Rattle.matrix.specs.Weight.{rule}
-use Rattle.matrix.proofs.Ruled.{small_whole}
 use Rattle.bands.specs.Grids.{Laid}
-use Rattle.bands.proofs.Laid.{laid_none, laid_on, laid_all}
 use Rattle.matrix.proofs.whole.fill_small.Given as goal
 
 abbrev pub invariant-loop-q : goal.invariant-loop-q

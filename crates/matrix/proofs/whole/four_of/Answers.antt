@@ -1,5 +1,5 @@
 -- `whole::four_of` in modes 3 and 5. Assumes nothing.
-use Rattle.std.proofs.Common.{◌≡◌, ℕ, arith, rules}
+use Rattle.std.proofs.Common.{◌≡◌, ℕ, arith}
 use Rattle.matrix.proofs.Ruled.{four_grid, second_grid}
 use Rattle.matrix.proofs.whole.four_of.Goals as goal
 

@@ -1,5 +1,5 @@
 -- `grid::put` is `put_of`. Assumes nothing.
-use Rattle.std.proofs.Common.{arith, length-set, rules}
+use Rattle.std.proofs.Common.{arith, length-set}
 use Rattle.matrix.proofs.whole.put.Goals as goal
 
 pub bounds-out-area : goal.bounds-out-area

@@ -1,5 +1,5 @@
 -- `whole::put_number`. Assumes nothing.
-use Rattle.std.proofs.Common.{ap, ◌∙◌, rules}
+use Rattle.std.proofs.Common.{ap, ◌∙◌}
 use lib.Ieee.{Float}
 use Rattle.bands.specs.Grids.{put_of}
 use Rattle.matrix.specs.Numbers.{number_of}

@@ -1,5 +1,5 @@
 -- `whole::small_at` by its modes. Assumes nothing.
-use Rattle.std.proofs.Common.{◌≡◌, ℕ, ◌<◌, ◌≤◌, arith, rules}
+use Rattle.std.proofs.Common.{◌≡◌, ℕ, ◌<◌, ◌≤◌, arith}
 use Rattle.matrix.proofs.Ruled.{ruled_1, ruled_2, ruled_3, ruled_4, ruled_5}
 use Rattle.matrix.proofs.whole.small_at.Goals as goal
 
