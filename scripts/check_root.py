@@ -30,7 +30,10 @@ PLAIN = re.compile(
 # leading zeros of a subnormal ratio, which is divided before; the copy of the finished table. The distances: the sum of the two
 # squares; the product that makes a position of a distance.
 PLACES = {"bands::three::chains": ("bsr", "call"), "matrix::lists::fill_bands": ("addps", "mulps")}
-ALONE = """#[no_mangle]
+ALONE = """// The whole root, alone.
+#![tactic(auto)]
+
+#[unsafe(no_mangle)]
 pub extern "C" fn root_alone(x: u64) -> u64 {
     bands::whole_root(x)
 }
@@ -81,20 +84,18 @@ def around(steps):
 
 
 def compiled_alone():
-    """The instructions of a library of one function, which calls `whole_root`; bands is taken as it was proved."""
+    """The instructions of a library of one function, which calls `whole_root`."""
     with tempfile.TemporaryDirectory() as room:
         room = pathlib.Path(room)
         for name in BELOW:
-            shutil.copytree(ROOT / "crates" / name, room / "crates" / name)
-            shutil.copytree(ROOT / "target/rlib" / f"{name}.rlib", room / "target/rlib" / f"{name}.rlib")
-            (room / "target/stamp").mkdir(exist_ok=True)
-            shutil.copy(ROOT / "target/stamp" / name, room / "target/stamp" / name)
+            shutil.copytree(ROOT / "crates" / name, room / "crates" / name, ignore=shutil.ignore_patterns("out"))
         listed = [line for line in (ROOT / "crates.txt").read_text().splitlines() if line.split(":")[0] in BELOW]
-        (room / "crates.txt").write_text("\n".join(listed) + "\nroot_alone: bands\n")
+        (room / "crates.txt").write_text("\n".join(listed) + "\nroot_alone staticlib: bands\n")
+        (room / ".gitignore").write_text("out/\n")
         (room / "crates/root_alone/src").mkdir(parents=True)
         (room / "crates/root_alone/src/lib.rt").write_text(ALONE)
-        subprocess.run(["rt", "staticlib", "root_alone"], cwd=room, check=True, capture_output=True)
-        found = functions(room / "target/staticlib/libroot_alone.a")
+        subprocess.run(["rt", "lib"], cwd=room / "crates/root_alone", check=True, capture_output=True)
+        found = functions(room / "crates/root_alone/out/libroot_alone.a")
     return [step for steps in found.values() for step in steps]
 
 
