@@ -1,0 +1,9 @@
+-- `record::piece::plus_of` meets its contract. Assumes nothing.
+use borrow.Author.Rules.{rules}
+use native.Mathlib.Omega.{arith}
+use mir.Syntax.{w32}
+use mir.Facts.{to_z_pos}
+use Rattle.record.proofs.piece.plus_of.Goals as goal
+
+pub returns : goal.returns
+returns c = to_z_pos w32 {n = c.args.m} (omega arith)

@@ -1,0 +1,11 @@
+-- `record::put::put_slot` meets its contract. Assumes nothing.
+use mathlib.Core.Bool.{true, false}
+use Rattle.record.proofs.LineStores.{slot_stored}
+use borrow.Author.Rules.{rules}
+use Rattle.record.proofs.put.put_slot.Goals as goal
+
+pub returns-then-hex : goal.returns-then-hex
+returns-then-hex c = let a = c.args in slot_stored a.hex true a.out.now _ a.at a.v a.end _ c.if-hex.true (c.put_half.ensures.0, c.put_half.ensures.1)
+
+pub returns : goal.returns
+returns c = let a = c.args in slot_stored a.hex false a.out.now _ a.at a.v a.end _ c.if-hex.false (c.put_count.ensures.0, c.put_count.ensures.1)

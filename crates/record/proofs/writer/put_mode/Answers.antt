@@ -1,0 +1,15 @@
+-- `record::writer::put_mode` meets its contract. Assumes nothing.
+use native.Mathlib.Omega.{arith}
+use Rattle.record.proofs.Framed.{start_small, lines_cut}
+use Rattle.record.proofs.LineStores.{lines_short, text_stored}
+use borrow.Author.Rules.{rules}
+use Rattle.record.proofs.writer.put_mode.Goals as goal
+
+pub slice_bounds-put_bytes-count : goal.slice_bounds-put_bytes-count
+slice_bounds-put_bytes-count c = omega (arith, start_small c.args.kind _ c.lines_start-start.ensures)
+
+pub slice_bounds-put_bytes-start : goal.slice_bounds-put_bytes-start
+slice_bounds-put_bytes-start c = search (start_small c.args.kind _ c.lines_start-start.ensures, rules)
+
+pub returns : goal.returns
+returns c = let a = c.args in text_stored _ _ _ _ _ _ _ (lines_short a.kind a.mode) (lines_cut a.kind _ c.lines_start-start.ensures _ _ (search rules) c.lines-line.ensures) c.put_bytes.ensures.0 c.put_bytes.ensures.1
