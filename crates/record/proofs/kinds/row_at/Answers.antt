@@ -11,12 +11,3 @@ overflow_cast-row c = let a = c.args in record { fits = omega (arith, mode_read 
 
 pub parts_at-requires : goal.parts_at-requires
 parts_at-requires c = let a = c.args in let w = mode_read a.s.now a.at a.kind _ c.mode_at.ensures c.m-1.given.0.0 c.m-1.given.0.1.0 (search rules) (search) in (w.1, (w.0, record { long = refl; first = refl; second = refl }))
-
-pub returns-in-Got-parts_at : goal.returns-in-Got-parts_at
-returns-in-Got-parts_at c = let a = c.args in row_got a.s.now a.at a.kind a.rows.now _ _ a.arena.now _ _ (search rules) (entry_got a.s.now a.at a.kind _ c.mode_at.ensures (replicate 128 0) _ a.arena.now _ c.m-1.given.0.0 c.m-1.given.0.1.0 (search) (set (replicate 128 0) 0 c.m-1.given.0.0) refl _ (c.parts_at.ensures.0, c.parts_at.ensures.1)) _ (search) c.put_numbers.ensures
-
-pub returns-in-Bad-parts_at : goal.returns-in-Bad-parts_at
-returns-in-Bad-parts_at c = let a = c.args in row_bad a.s.now a.at a.kind a.rows.now _ _ a.arena.now _ _ (search rules) (entry_got a.s.now a.at a.kind _ c.mode_at.ensures (replicate 128 0) _ a.arena.now _ c.m-1.given.0.0 c.m-1.given.0.1.0 (search) (set (replicate 128 0) 0 c.m-1.given.0.0) refl _ (c.parts_at.ensures.0, c.parts_at.ensures.1)) _ (search)
-
-pub returns-in-Bad : goal.returns-in-Bad
-returns-in-Bad c = let a = c.args in row_bad a.s.now a.at a.kind a.rows.now _ (replicate 128 0) a.arena.now _ _ (search rules) (entry_bad a.s.now a.at a.kind _ c.mode_at.ensures (replicate 128 0) (replicate 128 0) a.arena.now _ c.p-1.given.0.0 (search)) _ refl

@@ -5,14 +5,5 @@ use Rattle.record.proofs.LinePlaces.{line_none, line_name, line_items}
 use borrow.Author.Rules.{rules}
 use Rattle.record.proofs.kinds.slots_at.Goals as goal
 
-pub returns-then-n-eq0 : goal.returns-then-n-eq0
-returns-then-n-eq0 c = let a = c.args in line_none (slot_name a.hex) 0 (slot a.hex) a.s.now a.at a.n a.out.now a.place c.if-n-eq0.true
-
 pub slots-requires : goal.slots-requires
 slots-requires c = (lit_within _ _ _ _ _ (search rules) c.name_at.ensures (search), search rules)
-
-pub returns-in-Got : goal.returns-in-Got
-returns-in-Got c = let a = c.args in line_items (slot_name a.hex) 0 (slot a.hex) a.s.now a.at a.n a.out.now a.place c.if-n-eq0.false _ c.name_at.ensures _ (search) _ _ c.slots.ensures.0 c.slots.ensures.1
-
-pub returns-in-Bad : goal.returns-in-Bad
-returns-in-Bad c = let a = c.args in line_name (slot_name a.hex) 0 (slot a.hex) a.s.now a.at a.n a.out.now a.place c.if-n-eq0.false _ c.name_at.ensures _ (search)

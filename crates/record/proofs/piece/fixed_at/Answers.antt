@@ -13,11 +13,8 @@ use Rattle.record.proofs.piece.fixed_at.Goals as goal
 pub loop-i-init : goal.loop-i-init
 loop-i-init c = (search rules, search rules, passed_start c.args.s.now c.args.w.now c.args.at)
 
-pub returns-then-s-at : goal.returns-then-s-at
-returns-then-s-at c = let a = c.args in let h = c.loop-i.invariant.2 in fixed_bad a.s.now a.w.now a.at _ (⊎_elim (λ w. passed_out _ _ _ _ h w.taken (search rules)) (λ w. passed_differs _ _ _ _ h (omega (arith, w.0.left)) (omega arith) w.3.taken) c.then-s-at.branch) (omega arith)
-
-pub loop-i-preserved : goal.loop-i-preserved
-loop-i-preserved c = (search rules, search rules, passed_same _ _ _ _ c.loop-i.invariant.2 (omega arith) (omega arith) c.if-s-at-2.false)
-
 pub returns : goal.returns
 returns c = let a = c.args in fixed_got a.s.now a.w.now a.at _ (passed_all _ _ _ _ c.loop-i.invariant.2 c.loop-i-test.false) c.loop-i-test.false
+
+pub returns-then-s-at : goal.returns-then-s-at
+returns-then-s-at c = let a = c.args in let h = c.loop-i.invariant.2 in fixed_bad a.s.now a.w.now a.at _ (⊎_elim (λ w. passed_out _ _ _ _ h w.taken (search rules)) (λ w. passed_differs _ _ _ _ h (omega (arith, w.0.left)) (omega arith) w.3.taken) c.then-s-at.branch) (omega arith)

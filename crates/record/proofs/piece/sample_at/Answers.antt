@@ -16,6 +16,12 @@ returns-then-b-eq48 c = sample_led _ _ _ _ c.byte_at-b.ensures _ c.byte_at.ensur
 pub number_at-requires : goal.number_at-requires
 number_at-requires c = (omega (arith, inside c.args.s.now c.args.at 45 (omega arith) (sym c.if-b-eq45.true ∙ c.byte_at-b.ensures)), search rules)
 
+pub returns-in-Bad : goal.returns-in-Bad
+returns-in-Bad c = minus_bad _ _ _ _ c.byte_at-b.ensures _ _ c.if-b-eq48.false c.if-b-eq45.true c.number_at.ensures (search)
+
+pub returns-in-Bad-number_at : goal.returns-in-Bad-number_at
+returns-in-Bad-number_at c = plus_bad _ _ _ _ c.byte_at-b.ensures _ _ c.if-b-eq48.false c.if-b-eq45.false c.number_at-else-b-eq45.ensures (search)
+
 pub minus_of-requires : goal.minus_of-requires
 minus_of-requires c = number_limit 2147483648 _ _ _ _ c.m-1.given.0.0 c.m-1.given.0.1.0 c.requires.1.0 (omega arith) (omega (arith, inside c.args.s.now c.args.at 45 (omega arith) (sym c.if-b-eq45.true ∙ c.byte_at-b.ensures))) c.number_at.ensures (search)
 
@@ -25,11 +31,5 @@ plus_of-requires c = number_limit 2147483647 _ _ _ _ c.m-in-Got-number_at-2-1.gi
 pub returns-in-Got : goal.returns-in-Got
 returns-in-Got c = let z : to_z w32 (of_z w32 c.minus_of.result) ≡ c.minus_of.result = search rules in minus_got _ _ _ _ c.byte_at-b.ensures _ c.m-1.given.0.0 _ _ c.if-b-eq48.false c.if-b-eq45.true c.number_at.ensures (search) (z ∙ c.minus_of.ensures)
 
-pub returns-in-Bad : goal.returns-in-Bad
-returns-in-Bad c = minus_bad _ _ _ _ c.byte_at-b.ensures _ _ c.if-b-eq48.false c.if-b-eq45.true c.number_at.ensures (search)
-
 pub returns-in-Got-number_at : goal.returns-in-Got-number_at
 returns-in-Got-number_at c = let z : to_z w32 (of_z w32 c.plus_of.result) ≡ c.plus_of.result = search rules in plus_got _ _ _ _ c.byte_at-b.ensures _ c.m-in-Got-number_at-2-1.given.0.0 _ _ c.if-b-eq48.false c.if-b-eq45.false c.number_at-else-b-eq45.ensures (search) (z ∙ c.plus_of.ensures)
-
-pub returns-in-Bad-number_at : goal.returns-in-Bad-number_at
-returns-in-Bad-number_at c = plus_bad _ _ _ _ c.byte_at-b.ensures _ _ c.if-b-eq48.false c.if-b-eq45.false c.number_at-else-b-eq45.ensures (search)

@@ -22,11 +22,11 @@ sample_at-requires c = (c.loop-left.invariant.1.within, (subst⁻¹ (λ (e : ℕ
 pub shape_of-out-in-Bad : goal.shape_of-out-in-Bad
 shape_of-out-in-Bad c = listed_length (pos 0) signed _ _ _ _ _ _ _ _ _ c.loop-left.invariant.1
 
-pub returns-in-Bad : goal.returns-in-Bad
-returns-in-Bad c = turn_bad (pos 0) signed _ _ _ _ _ _ _ _ _ c.loop-left.invariant.1 _ _ c.loop-left-test.true c.end_of-end.ensures (sample_bad _ _ _ c.sample_at.ensures (search))
-
 pub overflow_add-j : goal.overflow_add-j
 overflow_add-j c = omega (arith, c.loop-left.invariant.1.counted, c.loop-left.invariant.1.fits, c.loop-left-test.true)
+
+pub shape_of-out : goal.shape_of-out
+shape_of-out c = listed_length (pos 0) signed _ _ _ _ _ _ _ _ _ c.loop-left.invariant.1
 
 pub loop-left-preserved : goal.loop-left-preserved
 loop-left-preserved c =
@@ -35,9 +35,3 @@ loop-left-preserved c =
       turn_got (pos 0) signed _ _ _ _ _ _ _ _ _ c.loop-left.invariant.1 _ _ c.v-1.given.0.0 _ c.loop-left-test.true c.end_of-end.ensures (λ m. signed_lawful _ (end_small m))
           (sample_got _ _ _ _ c.sample_at.ensures (search)) (c.put_i32.ensures ∙ ap (set c.loop-left.out c.loop-left.j) z),
     )
-
-pub shape_of-out : goal.shape_of-out
-shape_of-out c = listed_length (pos 0) signed _ _ _ _ _ _ _ _ _ c.loop-left.invariant.1
-
-pub returns : goal.returns
-returns c = (listed_seen (pos 0) signed _ _ _ _ _ _ _ _ _ c.loop-left.invariant.1 c.loop-left-test.false, listed_stored (pos 0) signed _ _ _ _ _ _ _ _ _ c.loop-left.invariant.1 c.loop-left-test.false)

@@ -18,12 +18,6 @@ slot_at-requires c = (c.loop-left.invariant.1.within, let e = c.end_of-end.ensur
 pub shape_of-out-in-Bad : goal.shape_of-out-in-Bad
 shape_of-out-in-Bad c = listed_length 0 (slot c.args.hex) _ _ _ _ _ _ _ _ _ c.loop-left.invariant.1
 
-pub returns-in-Bad : goal.returns-in-Bad
-returns-in-Bad c = turn_bad 0 (slot c.args.hex) _ _ _ _ _ _ _ _ _ c.loop-left.invariant.1 _ _ c.loop-left-test.true c.end_of-end.ensures (num_bad _ _ _ c.slot_at.ensures (search))
-
-pub overflow_cast-v : goal.overflow_cast-v
-overflow_cast-v c = let a = c.args in record { fits = slot_small a.hex a.s.now _ _ _ c.v-1.given.0.0 c.v-1.given.0.1.0 (c.loop-left.left - 1) c.end_of-end.ensures c.loop-left.invariant.1.within c.slot_at.ensures (search) }
-
 pub overflow_add-j : goal.overflow_add-j
 overflow_add-j c = omega (arith, c.loop-left.invariant.1.counted, c.loop-left.invariant.1.fits, c.loop-left-test.true)
 
@@ -37,5 +31,5 @@ loop-left-preserved c = (
 pub shape_of-out : goal.shape_of-out
 shape_of-out c = listed_length 0 (slot c.args.hex) _ _ _ _ _ _ _ _ _ c.loop-left.invariant.1
 
-pub returns : goal.returns
-returns c = (listed_seen 0 (slot c.args.hex) _ _ _ _ _ _ _ _ _ c.loop-left.invariant.1 c.loop-left-test.false, listed_stored 0 (slot c.args.hex) _ _ _ _ _ _ _ _ _ c.loop-left.invariant.1 c.loop-left-test.false)
+pub overflow_cast-v : goal.overflow_cast-v
+overflow_cast-v c = let a = c.args in record { fits = slot_small a.hex a.s.now _ _ _ c.v-1.given.0.0 c.v-1.given.0.1.0 (c.loop-left.left - 1) c.end_of-end.ensures c.loop-left.invariant.1.within c.slot_at.ensures (search) }

@@ -12,6 +12,3 @@ loop-i-preserved c = (search rules, search rules, bytes_on _ _ _ _ _ _ c.loop-i.
 
 pub shape_of-out : goal.shape_of-out
 shape_of-out c = sets_length c.loop-i.out c.args.out.now c.args.at (take c.loop-i.i c.args.w.now) c.loop-i.invariant.2
-
-pub returns : goal.returns
-returns c = (search rules, bytes_all _ _ _ _ _ c.loop-i.invariant.2 c.loop-i-test.false)

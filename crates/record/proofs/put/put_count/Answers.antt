@@ -7,6 +7,3 @@ use Rattle.record.proofs.put.put_count.Goals as goal
 
 pub overflow_add-result : goal.overflow_add-result
 overflow_add-result c = let a = c.args in record { fits = omega (arith, c.put_digits-p.ensures.0, digits_length a.n a.n (omega arith)) }
-
-pub returns : goal.returns
-returns c = let a = c.args in count_text a.out.now _ _ a.at a.n a.end _ c.put_digits-p.ensures.0 c.put_digits-p.ensures.1 c.put_u8.ensures

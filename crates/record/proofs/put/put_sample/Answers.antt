@@ -4,17 +4,17 @@ use native.Mathlib.Omega.{arith}
 use borrow.Author.Rules.{rules}
 use Rattle.record.proofs.put.put_sample.Goals as goal
 
-pub returns-then-m-eq0 : goal.returns-then-m-eq0
-returns-then-m-eq0 c = let a = c.before.before.before.before.before.before.before.before in wrote_zero a.args.out.now a.args.at a.args.end a.args.v a.ranges.v _ c.magnitude_of-m.ensures _ _ c.if-m-eq0.true c.put_bytes.ensures.0 c.put_bytes.ensures.1
-
 pub put_count-requires : goal.put_count-requires
 put_count-requires c = (search rules, omega (arith, c.magnitude_of-m.ensures, size_bound c.args.v c.ranges.v))
 
-pub returns-then-v-lt0 : goal.returns-then-v-lt0
-returns-then-v-lt0 c = let a = c.before.before.before.before.before.before.before.before.before.before.before.before in wrote_minus a.args.out.now a.args.at a.args.end a.args.v a.ranges.v _ c.magnitude_of-m.ensures _ _ _ c.if-v-lt0.true c.put_u8.ensures c.put_count.ensures.0 c.put_count.ensures.1
-
 pub put_count-requires-2 : goal.put_count-requires-2
 put_count-requires-2 c = (search rules, omega (arith, c.magnitude_of-m.ensures, size_bound c.args.v c.ranges.v))
+
+pub returns-then-m-eq0 : goal.returns-then-m-eq0
+returns-then-m-eq0 c = let a = c.before.before.before.before.before.before.before.before in wrote_zero a.args.out.now a.args.at a.args.end a.args.v a.ranges.v _ c.magnitude_of-m.ensures _ _ c.if-m-eq0.true c.put_bytes.ensures.0 c.put_bytes.ensures.1
+
+pub returns-then-v-lt0 : goal.returns-then-v-lt0
+returns-then-v-lt0 c = let a = c.before.before.before.before.before.before.before.before.before.before.before.before in wrote_minus a.args.out.now a.args.at a.args.end a.args.v a.ranges.v _ c.magnitude_of-m.ensures _ _ _ c.if-v-lt0.true c.put_u8.ensures c.put_count.ensures.0 c.put_count.ensures.1
 
 pub returns : goal.returns
 returns c = let a = c.before.before.before.before.before.before.before.before in wrote_plus a.args.out.now a.args.at a.args.end a.args.v a.ranges.v _ c.magnitude_of-m.ensures _ _ c.if-m-eq0.false c.if-v-lt0.false c.put_count-2.ensures.0 c.put_count-2.ensures.1

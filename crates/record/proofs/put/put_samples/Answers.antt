@@ -20,6 +20,12 @@ loop-i-init c = (search rules, search rules, wrote_start (pos 0) signed _ _ _)
 pub put_sample-p-requires : goal.put_sample-p-requires
 put_sample-p-requires c = omega (arith, wrote_place (pos 0) signed _ _ _ _ _ _ c.loop-i.invariant.2, c.loop-i-test.true)
 
+pub shape_of-out : goal.shape_of-out
+shape_of-out c = put_length _ _ _ _ _ c.loop-i.invariant.2.put
+
+pub returns : goal.returns
+returns c = items_stored (pos 0) signed _ _ _ _ _ _ c.loop-i.invariant.2 (search rules) c.loop-i-test.false
+
 pub loop-i-preserved : goal.loop-i-preserved
 loop-i-preserved c =
     let x : ℤ = get_or c.args.src.now c.loop-i.i (pos 0) in
@@ -29,9 +35,3 @@ loop-i-preserved c =
       wrote_on (pos 0) signed _ _ _ _ _ _ c.loop-i.invariant.2 _ _ (to_z w32 (of_z w32 x)) _ c.loop-i-test.true c.end_of-end.ensures (to_z-of_z f)
           (signed_length c.end_of-end.result (to_z w32 (of_z w32 x)) (subst⁻¹ (SFits w32) (to_z-of_z f) f)) c.put_sample-p.ensures.0 c.put_sample-p.ensures.1,
     )
-
-pub shape_of-out : goal.shape_of-out
-shape_of-out c = put_length _ _ _ _ _ c.loop-i.invariant.2.put
-
-pub returns : goal.returns
-returns c = items_stored (pos 0) signed _ _ _ _ _ _ c.loop-i.invariant.2 (search rules) c.loop-i-test.false

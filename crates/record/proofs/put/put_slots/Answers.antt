@@ -16,11 +16,11 @@ loop-i-init c = (search rules, search rules, wrote_start 0 (slot c.args.hex) _ _
 pub put_slot-p-requires : goal.put_slot-p-requires
 put_slot-p-requires c = omega (arith, wrote_place 0 (slot c.args.hex) _ _ _ _ _ _ c.loop-i.invariant.2, c.loop-i-test.true)
 
-pub loop-i-preserved : goal.loop-i-preserved
-loop-i-preserved c = (search rules, search rules, wrote_on 0 (slot c.args.hex) _ _ _ _ _ _ c.loop-i.invariant.2 _ _ (get_or c.args.src.now c.loop-i.i 0) _ c.loop-i-test.true c.end_of-end.ensures refl (slot_short c.args.hex (get_or c.args.src.now c.loop-i.i 0) _ (c.shared_slice_known-1.given c.loop-i.i).fits) c.put_slot-p.ensures.0 c.put_slot-p.ensures.1)
-
 pub shape_of-out : goal.shape_of-out
 shape_of-out c = put_length _ _ _ _ _ c.loop-i.invariant.2.put
 
 pub returns : goal.returns
 returns c = items_stored 0 (slot c.args.hex) _ _ _ _ _ _ c.loop-i.invariant.2 (search rules) c.loop-i-test.false
+
+pub loop-i-preserved : goal.loop-i-preserved
+loop-i-preserved c = (search rules, search rules, wrote_on 0 (slot c.args.hex) _ _ _ _ _ _ c.loop-i.invariant.2 _ _ (get_or c.args.src.now c.loop-i.i 0) _ c.loop-i-test.true c.end_of-end.ensures refl (slot_short c.args.hex (get_or c.args.src.now c.loop-i.i 0) _ (c.shared_slice_known-1.given c.loop-i.i).fits) c.put_slot-p.ensures.0 c.put_slot-p.ensures.1)

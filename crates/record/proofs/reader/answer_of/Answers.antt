@@ -6,11 +6,11 @@ use Rattle.record.proofs.reader.answer_of.Goals as goal
 pub returns-then-q-text : goal.returns-then-q-text
 returns-then-q-text c = search (answer_more, rules)
 
+pub returns-in-Bad : goal.returns-in-Bad
+returns-in-Bad c = search (answer_bad, rules)
+
 pub returns-then-no_room : goal.returns-then-no_room
 returns-then-no_room c = answer_room _ _ _ c.walk.ensures.0 c.q-1.given.0.0 (search) c.if-q-text.false _ _ _ c.walk.ensures.1 _ c.no_room.ensures c.if-no_room.true
 
 pub returns-else-no_room : goal.returns-else-no_room
 returns-else-no_room c = answer_done _ _ _ c.walk.ensures.0 c.q-1.given.0.0 (search) c.if-q-text.false _ _ _ c.walk.ensures.1 _ c.no_room.ensures c.if-no_room.false
-
-pub returns-in-Bad : goal.returns-in-Bad
-returns-in-Bad c = search (answer_bad, rules)

@@ -13,11 +13,5 @@ loop-kind-init c = let a = c.args in (search rules, search rules, refl, refl, wa
 pub row_at-requires : goal.row_at-requires
 row_at-requires c = (c.loop-kind.invariant.4.within, search rules)
 
-pub returns-in-Bad : goal.returns-in-Bad
-returns-in-Bad c = let a = c.args in kinds_bad a.s.now a.at a.rows.now a.arena.now _ _ _ _ c.loop-kind.invariant.4 _ c.q-in-Bad-1.given.0.0 (search rules) c.row_at.ensures.0 (search) _ _
-
 pub loop-kind-preserved : goal.loop-kind-preserved
 loop-kind-preserved c = let a = c.args in (search rules, search rules, search rules, search rules, kinds_on a.s.now a.at a.rows.now a.arena.now _ _ _ _ c.loop-kind.invariant.4 _ c.q-1.given.0.0 (search rules) c.row_at.ensures.0 (search) _ _ c.row_at.ensures.1)
-
-pub returns : goal.returns
-returns c = let a = c.args in kinds_done a.s.now a.at a.rows.now a.arena.now _ _ _ _ c.loop-kind.invariant.4 c.loop-kind-test.false (search rules)

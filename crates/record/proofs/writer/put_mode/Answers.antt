@@ -10,6 +10,3 @@ slice_bounds-put_bytes-count c = omega (arith, start_small c.args.kind _ c.lines
 
 pub slice_bounds-put_bytes-start : goal.slice_bounds-put_bytes-start
 slice_bounds-put_bytes-start c = search (start_small c.args.kind _ c.lines_start-start.ensures, rules)
-
-pub returns : goal.returns
-returns c = let a = c.args in text_stored _ _ _ _ _ _ _ (lines_short a.kind a.mode) (lines_cut a.kind _ c.lines_start-start.ensures _ _ (search rules) c.lines-line.ensures) c.put_bytes.ensures.0 c.put_bytes.ensures.1
