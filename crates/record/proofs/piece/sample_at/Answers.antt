@@ -23,13 +23,13 @@ pub returns-in-Bad-number_at : goal.returns-in-Bad-number_at
 returns-in-Bad-number_at c = plus_bad _ _ _ _ c.byte_at-b.ensures _ _ c.if-b-eq48.false c.if-b-eq45.false c.number_at-else-b-eq45.ensures (search)
 
 pub minus_of-requires : goal.minus_of-requires
-minus_of-requires c = number_limit 2147483648 _ _ _ _ c.m-1.given.0.0 c.m-1.given.0.1.0 c.requires.1.0 (omega arith) (omega (arith, inside c.args.s.now c.args.at 45 (omega arith) (sym c.if-b-eq45.true ∙ c.byte_at-b.ensures))) c.number_at.ensures (search)
+minus_of-requires c = number_limit 2147483648 _ _ _ _ c.in-Got.m c.in-Got.q c.requires.1.0 (omega arith) (omega (arith, inside c.args.s.now c.args.at 45 (omega arith) (sym c.if-b-eq45.true ∙ c.byte_at-b.ensures))) c.number_at.ensures c.in-Got.is
 
 pub plus_of-requires : goal.plus_of-requires
-plus_of-requires c = number_limit 2147483647 _ _ _ _ c.m-in-Got-number_at-2-1.given.0.0 c.m-in-Got-number_at-2-1.given.0.1.0 c.requires.1.0 (omega arith) (search rules) c.number_at-else-b-eq45.ensures (search)
+plus_of-requires c = number_limit 2147483647 _ _ _ _ c.in-Got-number_at.m c.in-Got-number_at.q c.requires.1.0 (omega arith) (search rules) c.number_at-else-b-eq45.ensures c.in-Got-number_at.is
 
 pub returns-in-Got : goal.returns-in-Got
-returns-in-Got c = let z : to_z w32 (of_z w32 c.minus_of.result) ≡ c.minus_of.result = search rules in minus_got _ _ _ _ c.byte_at-b.ensures _ c.m-1.given.0.0 _ _ c.if-b-eq48.false c.if-b-eq45.true c.number_at.ensures (search) (z ∙ c.minus_of.ensures)
+returns-in-Got c = let z : to_z w32 (of_z w32 c.minus_of.result) ≡ c.minus_of.result = search rules in minus_got _ _ _ _ c.byte_at-b.ensures _ c.in-Got.m _ _ c.if-b-eq48.false c.if-b-eq45.true c.number_at.ensures c.in-Got.is (z ∙ c.minus_of.ensures)
 
 pub returns-in-Got-number_at : goal.returns-in-Got-number_at
-returns-in-Got-number_at c = let z : to_z w32 (of_z w32 c.plus_of.result) ≡ c.plus_of.result = search rules in plus_got _ _ _ _ c.byte_at-b.ensures _ c.m-in-Got-number_at-2-1.given.0.0 _ _ c.if-b-eq48.false c.if-b-eq45.false c.number_at-else-b-eq45.ensures (search) (z ∙ c.plus_of.ensures)
+returns-in-Got-number_at c = let z : to_z w32 (of_z w32 c.plus_of.result) ≡ c.plus_of.result = search rules in plus_got _ _ _ _ c.byte_at-b.ensures _ c.in-Got-number_at.m _ _ c.if-b-eq48.false c.if-b-eq45.false c.number_at-else-b-eq45.ensures c.in-Got-number_at.is (z ∙ c.plus_of.ensures)

@@ -30,8 +30,14 @@ shape_of-out c = listed_length (pos 0) signed _ _ _ _ _ _ _ _ _ c.loop-left.inva
 
 pub loop-left-preserved : goal.loop-left-preserved
 loop-left-preserved c =
-    let z : to_z w32 (of_z w32 c.v-1.given.0.0) ≡ c.v-1.given.0.0 = search rules in (
+    let z : to_z w32 (of_z w32 c.in-Got.v) ≡ c.in-Got.v = search rules in (
       search rules,
-      turn_got (pos 0) signed _ _ _ _ _ _ _ _ _ c.loop-left.invariant.1 _ _ c.v-1.given.0.0 _ c.loop-left-test.true c.end_of-end.ensures (λ m. signed_lawful _ (end_small m))
-          (sample_got _ _ _ _ c.sample_at.ensures (search)) (c.put_i32.ensures ∙ ap (set c.loop-left.out c.loop-left.j) z),
+      turn_got (pos 0) signed _ _ _ _ _ _ _ _ _ c.loop-left.invariant.1 _ _ c.in-Got.v _ c.loop-left-test.true c.end_of-end.ensures (λ m. signed_lawful _ (end_small m))
+          (sample_got _ _ _ _ c.sample_at.ensures c.in-Got.is) (c.put_i32.ensures ∙ ap (set c.loop-left.out c.loop-left.j) z),
     )
+
+pub returns-in-Bad : goal.returns-in-Bad
+returns-in-Bad c = let o = turn_bad (pos 0) signed _ _ _ _ _ _ _ _ _ c.loop-left.invariant.1 _ _ c.loop-left-test.true c.end_of-end.ensures (sample_bad _ _ _ c.sample_at.ensures c.in-Bad.is) in record { scanned = o.0; stored = o.1 }
+
+pub returns : goal.returns
+returns c = record { scanned = listed_seen (pos 0) signed _ _ _ _ _ _ _ _ _ c.loop-left.invariant.1 c.loop-left-test.false; stored = listed_stored (pos 0) signed _ _ _ _ _ _ _ _ _ c.loop-left.invariant.1 c.loop-left-test.false }

@@ -25,11 +25,17 @@ pub loop-left-preserved : goal.loop-left-preserved
 loop-left-preserved c = (
   search rules,
   turn_got 0 (slot c.args.hex) _ _ _ _ _ _ _ _ _ c.loop-left.invariant.1 _ _ _ _ c.loop-left-test.true c.end_of-end.ensures (slot_lawful c.args.hex)
-      (num_got _ _ _ _ c.slot_at.ensures (search)) c.put_u16.ensures,
+      (num_got _ _ _ _ c.slot_at.ensures c.in-Got.is) c.put_u16.ensures,
 )
 
 pub shape_of-out : goal.shape_of-out
 shape_of-out c = listed_length 0 (slot c.args.hex) _ _ _ _ _ _ _ _ _ c.loop-left.invariant.1
 
 pub overflow_cast-v : goal.overflow_cast-v
-overflow_cast-v c = let a = c.args in record { fits = slot_small a.hex a.s.now _ _ _ c.v-1.given.0.0 c.v-1.given.0.1.0 (c.loop-left.left - 1) c.end_of-end.ensures c.loop-left.invariant.1.within c.slot_at.ensures (search) }
+overflow_cast-v c = let a = c.args in record { fits = slot_small a.hex a.s.now _ _ _ c.in-Got.v c.in-Got.q (c.loop-left.left - 1) c.end_of-end.ensures c.loop-left.invariant.1.within c.slot_at.ensures c.in-Got.is }
+
+pub returns-in-Bad : goal.returns-in-Bad
+returns-in-Bad c = let o = turn_bad 0 (slot c.args.hex) _ _ _ _ _ _ _ _ _ c.loop-left.invariant.1 _ _ c.loop-left-test.true c.end_of-end.ensures (num_bad _ _ _ c.slot_at.ensures c.in-Bad.is) in record { scanned = o.0; stored = o.1 }
+
+pub returns : goal.returns
+returns c = record { scanned = listed_seen 0 (slot c.args.hex) _ _ _ _ _ _ _ _ _ c.loop-left.invariant.1 c.loop-left-test.false; stored = listed_stored 0 (slot c.args.hex) _ _ _ _ _ _ _ _ _ c.loop-left.invariant.1 c.loop-left-test.false }

@@ -23,4 +23,4 @@ pub returns : goal.returns
 returns c = items_stored 0 (slot c.args.hex) _ _ _ _ _ _ c.loop-i.invariant.2 (search rules) c.loop-i-test.false
 
 pub loop-i-preserved : goal.loop-i-preserved
-loop-i-preserved c = (search rules, search rules, wrote_on 0 (slot c.args.hex) _ _ _ _ _ _ c.loop-i.invariant.2 _ _ (get_or c.args.src.now c.loop-i.i 0) _ c.loop-i-test.true c.end_of-end.ensures refl (slot_short c.args.hex (get_or c.args.src.now c.loop-i.i 0) _ (c.shared_slice_known-1.given c.loop-i.i).fits) c.put_slot-p.ensures.0 c.put_slot-p.ensures.1)
+loop-i-preserved c = (search rules, search rules, wrote_on 0 (slot c.args.hex) _ _ _ _ _ _ c.loop-i.invariant.2 _ _ (get_or c.args.src.now c.loop-i.i 0) _ c.loop-i-test.true c.end_of-end.ensures refl (slot_short c.args.hex (get_or c.args.src.now c.loop-i.i 0) _ (c.type_inv.src c.loop-i.i).fits) c.put_slot-p.ensures.place c.put_slot-p.ensures.bytes)

@@ -10,7 +10,7 @@ pub returns-in-Bad : goal.returns-in-Bad
 returns-in-Bad c = search (answer_bad, rules)
 
 pub returns-then-no_room : goal.returns-then-no_room
-returns-then-no_room c = answer_room _ _ _ c.walk.ensures.0 c.q-1.given.0.0 (search) c.if-q-text.false _ _ _ c.walk.ensures.1 _ c.no_room.ensures c.if-no_room.true
+returns-then-no_room c = answer_room _ _ _ c.walk.ensures.scanned c.in-Got.q c.in-Got.is c.if-q-text.false _ _ _ c.walk.ensures.stored _ c.no_room.ensures c.if-no_room.true
 
 pub returns-else-no_room : goal.returns-else-no_room
-returns-else-no_room c = answer_done _ _ _ c.walk.ensures.0 c.q-1.given.0.0 (search) c.if-q-text.false _ _ _ c.walk.ensures.1 _ c.no_room.ensures c.if-no_room.false
+returns-else-no_room c = answer_done _ _ _ c.walk.ensures.scanned c.in-Got.q c.in-Got.is c.if-q-text.false _ _ _ c.walk.ensures.stored _ c.no_room.ensures c.if-no_room.false

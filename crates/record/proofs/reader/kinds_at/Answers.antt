@@ -14,4 +14,10 @@ pub row_at-requires : goal.row_at-requires
 row_at-requires c = (c.loop-kind.invariant.4.within, search rules)
 
 pub loop-kind-preserved : goal.loop-kind-preserved
-loop-kind-preserved c = let a = c.args in (search rules, search rules, search rules, search rules, kinds_on a.s.now a.at a.rows.now a.arena.now _ _ _ _ c.loop-kind.invariant.4 _ c.q-1.given.0.0 (search rules) c.row_at.ensures.0 (search) _ _ c.row_at.ensures.1)
+loop-kind-preserved c = let a = c.args in (search rules, search rules, search rules, search rules, kinds_on a.s.now a.at a.rows.now a.arena.now _ _ _ _ c.loop-kind.invariant.4 _ c.in-Got.q c.loop-kind-test.true c.row_at.ensures.scanned c.in-Got.is _ _ c.row_at.ensures.stored)
+
+pub returns-in-Bad : goal.returns-in-Bad
+returns-in-Bad c = let a = c.args in let o = kinds_bad a.s.now a.at a.rows.now a.arena.now _ _ _ _ c.loop-kind.invariant.4 _ c.in-Bad.q c.loop-kind-test.true c.row_at.ensures.scanned c.in-Bad.is c.row_at.new.rows c.row_at.new.arena in record { scanned = o.0; stored = o.1 }
+
+pub returns : goal.returns
+returns c = let a = c.args in let o = kinds_done a.s.now a.at a.rows.now a.arena.now _ _ _ _ c.loop-kind.invariant.4 c.loop-kind-test.false c.requires in record { scanned = o.0; stored = o.1 }

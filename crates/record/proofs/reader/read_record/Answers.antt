@@ -12,14 +12,14 @@ use Rattle.record.proofs.ReadPlaces.{lent_long, read_lent_lem, read_other, read_
 use borrow.Author.Rules.{rules}
 use Rattle.record.proofs.reader.read_record.Goals as goal
 
--- the tags of the other answers
-not_done : OneOf (1 ∷ 2 ∷ 3 ∷ []) 0 → ⊥
-not_done (inl e) = omega (arith, e)
-not_done (inr (inl e)) = omega (arith, e)
-not_done (inr (inr e)) = omega (arith, e)
-
 pub walk-requires : goal.walk-requires
 walk-requires c = let a = c.args in lent_long (length a.rows.now) (length a.samples.now) (sym c.if-is_lent.false ∙ c.is_lent.ensures)
 
+pub returns-then-is_lent : goal.returns-then-is_lent
+returns-then-is_lent c = let a = c.args in let o = read_lent_lem a.rows.now a.samples.now a.text.now _ c.is_lent.ensures c.if-is_lent.true in record { answer = o.0; rows = o.1.0; samples = o.1.1 }
+
+pub returns-in-Done : goal.returns-in-Done
+returns-in-Done c = let a = c.args in let o = read_done a.rows.now a.samples.now a.text.now _ c.is_lent.ensures c.if-is_lent.false _ c.answer_of-answer.ensures c.in-Done.is _ _ c.walk.ensures.stored in record { answer = o.0; rows = o.1.0; samples = o.1.1 }
+
 pub returns : goal.returns
-returns c = let a = c.args in read_other a.rows.now a.samples.now a.text.now _ c.is_lent.ensures c.if-is_lent.false _ c.answer_of-answer.ensures (λ q. not_done (subst (λ (x : taken.Taken). OneOf (1 ∷ 2 ∷ 3 ∷ []) (tag_of the_type x)) q c.in_default.keys2))
+returns c = let a = c.args in let o = read_other a.rows.now a.samples.now a.text.now _ c.is_lent.ensures c.if-is_lent.false _ c.answer_of-answer.ensures c.in_default.not-Done in record { answer = o.0; rows = o.1.0; samples = o.1.1 }
