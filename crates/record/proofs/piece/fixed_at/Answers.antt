@@ -6,7 +6,7 @@ use native.Mathlib.Omega.{arith}
 use borrow.Author.Rules.{rules}
 use lib.ListN.{length, drop}
 use Rattle.record.specs.Format.{shared}
-use Rattle.record.proofs.Places.{passed_start, passed_out, passed_differs, passed_same, passed_all}
+use Rattle.record.proofs.Places.{passed_start, passed_out, passed_end, passed_on, passed_all}
 use Rattle.record.proofs.Framed.{fixed_bad, fixed_got}
 use Rattle.record.proofs.piece.fixed_at.Goals as goal
 use Rattle.record.proofs.piece.fixed_at.Goals.{then-s-at-via-then-s-at, then-s-at-via-else-s-at+then-s-at-2}
@@ -23,5 +23,5 @@ returns-then-s-at c =
     let h = c.loop-i.invariant.2 in
     elim c.then-s-at.branch [
       then-s-at-via-then-s-at w ↦ fixed_bad a.s.now a.w.now a.at _ (passed_out _ _ _ _ h w.if-s-at.true c.requires) (omega arith)
-      | then-s-at-via-else-s-at+then-s-at-2 w ↦ fixed_bad a.s.now a.w.now a.at _ (passed_differs _ _ _ _ h (omega arith) (omega arith) w.if-s-at-2.true) (omega arith)
+      | then-s-at-via-else-s-at+then-s-at-2 w ↦ fixed_bad a.s.now a.w.now a.at _ (passed_end _ _ _ _ h (omega arith) (omega arith) w.if-s-at-2.true) (omega arith)
     ]

@@ -6,7 +6,7 @@ use native.Mathlib.Omega.{arith}
 use borrow.Author.Rules.{rules}
 use lib.ListN.{length, drop}
 use Rattle.record.specs.Format.{shared}
-use Rattle.record.proofs.Places.{passed_start, passed_out, passed_differs, passed_same, passed_all}
+use Rattle.record.proofs.Places.{passed_start, passed_out, passed_end, passed_on, passed_all}
 use Rattle.record.proofs.Framed.{fixed_bad, fixed_got}
 use Rattle.record.proofs.piece.fixed_at.Given as goal
 

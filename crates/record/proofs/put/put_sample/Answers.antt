@@ -11,10 +11,10 @@ pub put_count-requires-2 : goal.put_count-requires-2
 put_count-requires-2 c = (search rules, omega (arith, c.magnitude_of-m.ensures, size_bound c.args.v c.ranges.v))
 
 pub returns-then-m-eq0 : goal.returns-then-m-eq0
-returns-then-m-eq0 c = let a = c.before.before.before.before.before.before.before.before in wrote_zero a.args.out.now a.args.at a.args.end a.args.v a.ranges.v _ c.magnitude_of-m.ensures _ _ c.if-m-eq0.true c.put_bytes.ensures.0 c.put_bytes.ensures.1
+returns-then-m-eq0 c = let o = wrote_zero c.args.out.now c.args.at c.args.end c.args.v c.ranges.v _ c.magnitude_of-m.ensures _ _ c.if-m-eq0.true c.put_bytes.ensures.place c.put_bytes.ensures.bytes in record { place = o.0; bytes = o.1 }
 
 pub returns-then-v-lt0 : goal.returns-then-v-lt0
-returns-then-v-lt0 c = let a = c.before.before.before.before.before.before.before.before.before.before.before.before in wrote_minus a.args.out.now a.args.at a.args.end a.args.v a.ranges.v _ c.magnitude_of-m.ensures _ _ _ c.if-v-lt0.true c.put_u8.ensures c.put_count.ensures.0 c.put_count.ensures.1
+returns-then-v-lt0 c = let o = wrote_minus c.args.out.now c.args.at c.args.end c.args.v c.ranges.v _ c.magnitude_of-m.ensures _ _ _ c.if-v-lt0.true c.put_u8.ensures c.put_count.ensures.place c.put_count.ensures.bytes in record { place = o.0; bytes = o.1 }
 
 pub returns : goal.returns
-returns c = let a = c.before.before.before.before.before.before.before.before in wrote_plus a.args.out.now a.args.at a.args.end a.args.v a.ranges.v _ c.magnitude_of-m.ensures _ _ c.if-m-eq0.false c.if-v-lt0.false c.put_count-2.ensures.0 c.put_count-2.ensures.1
+returns c = let o = wrote_plus c.args.out.now c.args.at c.args.end c.args.v c.ranges.v _ c.magnitude_of-m.ensures _ _ c.if-m-eq0.false c.if-v-lt0.false c.put_count-2.ensures.place c.put_count-2.ensures.bytes in record { place = o.0; bytes = o.1 }

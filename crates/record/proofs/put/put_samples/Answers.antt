@@ -29,7 +29,7 @@ returns c = items_stored (pos 0) signed _ _ _ _ _ _ c.loop-i.invariant.2 (search
 pub loop-i-preserved : goal.loop-i-preserved
 loop-i-preserved c =
     let x : ℤ = get_or c.args.src.now c.loop-i.i (pos 0) in
-    let f : SFits w32 x = record { sfits = c.type_inv.src c.loop-i.i } in (
+    let f : SFits w32 x = record { sfits = search rules } in (
       search rules,
       search rules,
       wrote_on (pos 0) signed _ _ _ _ _ _ c.loop-i.invariant.2 _ _ (to_z w32 (of_z w32 x)) _ c.loop-i-test.true c.end_of-end.ensures (to_z-of_z f)

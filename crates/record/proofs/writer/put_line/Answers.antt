@@ -14,7 +14,7 @@ pub put_bytes-p-requires : goal.put_bytes-p-requires
 put_bytes-p-requires c = let a = c.args in let e = c.requires in omega (arith, ap length e.1, name_short a.hex, e.0)
 
 pub put_slots-requires : goal.put_slots-requires
-put_slots-requires c = let a = c.args in let e = c.requires in omega (arith, c.put_bytes-p.ensures.0, ap length e.1, name_short a.hex, e.0)
+put_slots-requires c = let a = c.args in let e = c.requires in omega (arith, c.put_bytes-p.ensures.place, ap length e.1, name_short a.hex, e.0)
 
 pub returns : goal.returns
-returns c = let a = c.args in let e = c.requires in line_named a.hex a.name.now e.1 a.src.now a.out.now a.at c.if-src-eq0.false _ _ _ _ c.put_bytes-p.ensures.0 c.put_bytes-p.ensures.1 c.put_slots.ensures
+returns c = let a = c.args in let e = c.requires in line_named a.hex a.name.now e.1 a.src.now a.out.now a.at c.if-src-eq0.false _ _ _ _ c.put_bytes-p.ensures.place c.put_bytes-p.ensures.bytes c.put_slots.ensures

@@ -11,4 +11,4 @@ pub returns-then-src-eq0 : goal.returns-then-src-eq0
 returns-then-src-eq0 c = let a = c.args in line_empty (bytes "samples=") (pos 0) signed a.src.now a.out.now a.at c.if-src-eq0.true
 
 pub returns : goal.returns
-returns c = let a = c.args in line_full (bytes "samples=") (pos 0) signed a.src.now a.out.now a.at (omega arith) c.if-src-eq0.false _ _ _ _ c.put_bytes-p.ensures.0 c.put_bytes-p.ensures.1 c.put_samples.ensures
+returns c = let a = c.args in line_full (bytes "samples=") (pos 0) signed a.src.now a.out.now a.at (omega arith) c.if-src-eq0.false _ _ _ _ c.put_bytes-p.ensures.place c.put_bytes-p.ensures.bytes c.put_samples.ensures
