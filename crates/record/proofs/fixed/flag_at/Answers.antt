@@ -1,6 +1,5 @@
 -- `record::fixed::flag_at` meets its contract. Assumes nothing.
 use Rattle.record.proofs.Framed.{flag_one, flag_none}
-use borrow.Author.Rules.{rules}
 use Rattle.record.proofs.fixed.flag_at.Goals as goal
 
 pub returns-then-byte_at-eq49 : goal.returns-then-byte_at-eq49

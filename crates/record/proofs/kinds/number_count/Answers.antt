@@ -2,7 +2,6 @@
 use mathlib.Core.Path.{refl}
 use Rattle.record.proofs.FlatLaws.{fixed_small}
 use native.Mathlib.Omega.{arith}
-use borrow.Author.Rules.{rules}
 use Rattle.record.proofs.kinds.number_count.Goals as goal
 
 pub overflow_add-result : goal.overflow_add-result

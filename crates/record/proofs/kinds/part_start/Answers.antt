@@ -1,6 +1,5 @@
 -- `record::kinds::part_start` meets its contract. Assumes nothing.
 use borrow.Author.Tests.{eq-eqb, ne_eqb}
-use borrow.Author.Rules.{rules}
 use Rattle.record.proofs.kinds.part_start.Goals as goal
 
 pub returns-then-mode-ne7 : goal.returns-then-mode-ne7

@@ -1,9 +1,6 @@
 -- `record::kinds::put_numbers` meets its contract: what is passed is stored. Assumes nothing.
-use mathlib.Core.Path.{◌≡◌}
-use Prim.Native.Nat.{◌+◌, ◌-◌, ◌≤◌, ◌<◌}
 use borrow.Author.Rules.{rules}
-use lib.ListN.{length, take}
-use lib.Seq.{sets}
+use lib.ListN.{take}
 use Rattle.record.proofs.Stores.{bytes_on, bytes_all, sets_length}
 use Rattle.record.proofs.kinds.put_numbers.Goals as goal
 

@@ -3,7 +3,6 @@ use mathlib.Core.Path.{refl}
 use native.Mathlib.Omega.{arith}
 use lib.ListN.{set, replicate}
 use Rattle.record.proofs.PartPlaces.{mode_read, entry_got, entry_bad, row_got, row_bad}
-use borrow.Author.Rules.{rules}
 use Rattle.record.proofs.kinds.row_at.Goals as goal
 
 pub overflow_cast-row : goal.overflow_cast-row

@@ -1,5 +1,4 @@
 -- `record::piece::byte_at` meets its contract. Assumes nothing.
-use borrow.Author.Rules.{rules}
 use lib.ListN.{get_or-eq_default}
 use mathlib.Core.Path.{sym}
 use Rattle.record.proofs.piece.byte_at.Goals as goal

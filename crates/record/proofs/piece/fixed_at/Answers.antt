@@ -1,12 +1,7 @@
 -- `record::piece::fixed_at` meets its contract: what is shared is what is passed and what the rests share. Assumes nothing.
-use mathlib.Core.Path.{◌≡◌}
-use mathlib.Core.Logic.{⊎_elim}
-use Prim.Native.Nat.{◌+◌, ◌-◌, ◌≤◌}
 use native.Mathlib.Omega.{arith}
 use borrow.Author.Rules.{rules}
-use lib.ListN.{length, drop}
-use Rattle.record.specs.Format.{shared}
-use Rattle.record.proofs.Places.{passed_start, passed_out, passed_end, passed_on, passed_all}
+use Rattle.record.proofs.Places.{passed_start, passed_out, passed_end, passed_all}
 use Rattle.record.proofs.Framed.{fixed_bad, fixed_got}
 use Rattle.record.proofs.piece.fixed_at.Goals as goal
 use Rattle.record.proofs.piece.fixed_at.Goals.{then-s-at-via-then-s-at, then-s-at-via-else-s-at+then-s-at-2}
@@ -22,6 +17,6 @@ returns-then-s-at c =
     let a = c.args in
     let h = c.loop-i.invariant.2 in
     elim c.then-s-at.branch [
-      then-s-at-via-then-s-at w ↦ fixed_bad a.s.now a.w.now a.at _ (passed_out _ _ _ _ h w.if-s-at.true c.requires) (omega arith)
+      | then-s-at-via-then-s-at w ↦ fixed_bad a.s.now a.w.now a.at _ (passed_out _ _ _ _ h w.if-s-at.true c.requires) (omega arith)
       | then-s-at-via-else-s-at+then-s-at-2 w ↦ fixed_bad a.s.now a.w.now a.at _ (passed_end _ _ _ _ h (omega arith) (omega arith) w.if-s-at-2.true) (omega arith)
     ]

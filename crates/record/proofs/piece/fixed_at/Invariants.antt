@@ -1,13 +1,8 @@
 -- `record::piece::fixed_at` meets its contract: what is shared is what is passed and what the rests share. Assumes nothing.
 use mathlib.Core.Path.{◌≡◌}
-use mathlib.Core.Logic.{⊎_elim}
 use Prim.Native.Nat.{◌+◌, ◌-◌, ◌≤◌}
-use native.Mathlib.Omega.{arith}
-use borrow.Author.Rules.{rules}
 use lib.ListN.{length, drop}
 use Rattle.record.specs.Format.{shared}
-use Rattle.record.proofs.Places.{passed_start, passed_out, passed_end, passed_on, passed_all}
-use Rattle.record.proofs.Framed.{fixed_bad, fixed_got}
 use Rattle.record.proofs.piece.fixed_at.Given as goal
 
 abbrev pub invariant-loop-i : goal.invariant-loop-i

@@ -1,14 +1,10 @@
 -- `record::piece::hex_at` meets its contract. Assumes nothing.
 use borrow.Author.Rules.{rules}
-use native.Mathlib.Omega.{arith}
 use Rattle.record.proofs.HalfPlaces.{hex_out, hex_low, hex_digit, hex_middle, hex_letter, hex_high}
 use Rattle.record.proofs.piece.hex_at.Goals as goal
 
 pub returns-then-s-i : goal.returns-then-s-i
 returns-then-s-i c = search (hex_out, rules)
-
-pub overflow_cast-b : goal.overflow_cast-b
-overflow_cast-b c = omega (arith, c.shared_slice_known-1.given c.args.i)
 
 pub returns-then-b-lt48 : goal.returns-then-b-lt48
 returns-then-b-lt48 c = search (hex_low, rules)

@@ -1,5 +1,4 @@
 -- `record::piece::minus_of` meets its contract. Assumes nothing.
-use borrow.Author.Rules.{rules}
 use mathlib.Core.Path.{◌∙◌, ap, subst⁻¹}
 use mir.Syntax.{w32, w64}
 use mir.Val.{SFits, to_z, of_z}

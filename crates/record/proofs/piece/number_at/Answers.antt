@@ -1,10 +1,6 @@
 -- `record::piece::number_at` meets its contract: reading from the start is reading on from here. Assumes nothing.
-use mathlib.Core.Path.{◌≡◌}
-use Prim.Native.Nat.{◌-◌, ◌≤◌, ◌<◌}
 use native.Mathlib.Nat.{sub_self}
 use borrow.Author.Rules.{rules}
-use lib.ListN.{length, drop}
-use Rattle.record.specs.Number.{number_from}
 use Rattle.record.proofs.Places.{number_got, number_bad, number_out, number_on, on_limit}
 use Rattle.record.proofs.piece.number_at.Goals as goal
 

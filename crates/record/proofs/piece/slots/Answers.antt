@@ -1,12 +1,12 @@
 -- `record::piece::slots` meets its contract: the loop of `ItemPlaces`, over band counts or half floats. Assumes nothing.
 use mathlib.Core.Path.{subst⁻¹}
-use Prim.Native.Nat.{ℕ, ◌+◌, ◌-◌, ◌<◌}
+use Prim.Native.Nat.{ℕ, ◌-◌, ◌<◌}
 use native.Mathlib.Omega.{arith}
 use borrow.Author.Rules.{rules}
 use Rattle.record.specs.Answers.{slot}
 use Rattle.record.proofs.Slots.{slot_lawful, slot_small}
 use Rattle.record.proofs.Records.{end_small, end_some}
-use Rattle.record.proofs.ItemPlaces.{Listed, listed_start, listed_seen, listed_stored, listed_length, turn_bad, turn_got, num_got, num_bad}
+use Rattle.record.proofs.ItemPlaces.{listed_start, listed_seen, listed_stored, listed_length, turn_bad, turn_got, num_got, num_bad}
 use Rattle.record.proofs.piece.slots.Goals as goal
 
 pub loop-left-init : goal.loop-left-init

@@ -1,10 +1,7 @@
 -- `record::put::put_bytes` meets its contract: what is passed is stored. Assumes nothing.
-use mathlib.Core.Path.{◌≡◌}
-use Prim.Native.Nat.{◌+◌, ◌-◌, ◌≤◌, ◌<◌}
 use borrow.Author.Rules.{rules}
-use lib.ListN.{length, take}
-use lib.Seq.{sets}
-use Rattle.record.proofs.Stores.{bytes_on, bytes_all, sets_length}
+use lib.ListN.{take}
+use Rattle.record.proofs.Stores.{bytes_on, sets_length}
 use Rattle.record.proofs.put.put_bytes.Goals as goal
 
 pub loop-i-preserved : goal.loop-i-preserved

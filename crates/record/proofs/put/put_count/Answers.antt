@@ -2,7 +2,6 @@
 use Rattle.record.proofs.Stores.{digits_length}
 use native.Mathlib.Omega.{arith}
 use Rattle.record.proofs.LineStores.{count_text}
-use borrow.Author.Rules.{rules}
 use Rattle.record.proofs.put.put_count.Goals as goal
 
 pub overflow_add-result : goal.overflow_add-result

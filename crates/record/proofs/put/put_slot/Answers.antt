@@ -1,7 +1,6 @@
 -- `record::put::put_slot` meets its contract. Assumes nothing.
 use mathlib.Core.Bool.{true, false}
 use Rattle.record.proofs.LineStores.{slot_stored}
-use borrow.Author.Rules.{rules}
 use Rattle.record.proofs.put.put_slot.Goals as goal
 
 pub returns-then-hex : goal.returns-then-hex

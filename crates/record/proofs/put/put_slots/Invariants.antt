@@ -1,13 +1,8 @@
 -- `record::put::put_slots` meets its contract: the loop of `ItemStores`, over band counts or half floats. Assumes nothing.
-use mathlib.Core.Path.{refl}
 use Prim.Native.Nat.{◌+◌, ◌*◌, ◌-◌, ◌≤◌, ◌<◌}
-use native.Mathlib.Omega.{arith}
-use borrow.Author.Rules.{rules}
-use lib.ListN.{length, get_or}
+use lib.ListN.{length}
 use Rattle.record.specs.Answers.{slot}
-use Rattle.record.proofs.Stores.{put_length}
-use Rattle.record.proofs.ItemStores.{Wrote, wrote_start, wrote_on, wrote_place}
-use Rattle.record.proofs.LineStores.{items_stored, slot_short}
+use Rattle.record.proofs.ItemStores.{Wrote}
 use Rattle.record.proofs.put.put_slots.Given as goal
 
 abbrev pub invariant-loop-i : goal.invariant-loop-i

@@ -1,8 +1,6 @@
 -- `record::reader::kinds_at` meets its contract. Assumes nothing.
-use mathlib.Core.Path.{◌≡◌, refl}
-use lib.ListN.{length}
-use Prim.Native.Nat.{◌≤◌, ◌-◌}
-use Rattle.record.proofs.KindPlaces.{Walked, walked_start}
+use mathlib.Core.Path.{refl}
+use Rattle.record.proofs.KindPlaces.{walked_start}
 use Rattle.record.proofs.WalkPlaces.{store, kinds_bad, kinds_on, kinds_done}
 use borrow.Author.Rules.{rules}
 use Rattle.record.proofs.reader.kinds_at.Goals as goal

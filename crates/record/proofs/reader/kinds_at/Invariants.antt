@@ -1,10 +1,9 @@
 -- `record::reader::kinds_at` meets its contract. Assumes nothing.
-use mathlib.Core.Path.{◌≡◌, refl}
+use mathlib.Core.Path.{◌≡◌}
 use lib.ListN.{length}
 use Prim.Native.Nat.{◌≤◌, ◌-◌}
-use Rattle.record.proofs.KindPlaces.{Walked, walked_start}
-use Rattle.record.proofs.WalkPlaces.{store, kinds_bad, kinds_on, kinds_done}
-use borrow.Author.Rules.{rules}
+use Rattle.record.proofs.KindPlaces.{Walked}
+use Rattle.record.proofs.WalkPlaces.{store}
 use Rattle.record.proofs.reader.kinds_at.Given as goal
 
 abbrev pub invariant-loop-kind : goal.invariant-loop-kind

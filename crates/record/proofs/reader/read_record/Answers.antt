@@ -1,15 +1,7 @@
 -- `record::reader::read_record` meets its contract. Assumes nothing.
 use lib.ListN.{length}
-use mathlib.Core.Path.{sym, ◌∙◌, subst}
-use mathlib.Core.List.{[], ◌∷◌}
-use mathlib.Core.Logic.{inl, inr}
-use native.Mathlib.Omega.{arith}
-use types.Run.{OneOf}
-use denote.Enum.Declared.{tag_of}
-use Rattle.record.specs.declared.reader.Taken as taken
-use Rattle.record.specs.contracts.reader.Taken.{the_type}
+use mathlib.Core.Path.{sym, ◌∙◌}
 use Rattle.record.proofs.ReadPlaces.{lent_long, read_lent_lem, read_other, read_done}
-use borrow.Author.Rules.{rules}
 use Rattle.record.proofs.reader.read_record.Goals as goal
 
 pub walk-requires : goal.walk-requires

@@ -1,7 +1,6 @@
 -- `record::reader::walk` meets its contract. Assumes nothing.
 use mathlib.Core.Path.{refl}
 use Rattle.record.proofs.WalkPlaces.{walk_default, header_within, walk_kinds, walk_head}
-use borrow.Author.Rules.{rules}
 use Rattle.record.proofs.reader.walk.Goals as goal
 
 pub kinds_at-requires : goal.kinds_at-requires

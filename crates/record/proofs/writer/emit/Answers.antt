@@ -1,7 +1,6 @@
 -- `record::writer::emit` meets its contract. Assumes nothing.
 use native.Mathlib.Omega.{arith}
 use Rattle.record.proofs.SetStores.{kind_long, flag_small, emit_default, emit_kinds}
-use borrow.Author.Rules.{rules}
 use Rattle.record.proofs.writer.emit.Goals as goal
 
 pub bounds-rows-126 : goal.bounds-rows-126

@@ -1,8 +1,7 @@
 -- `record::writer::put_kinds` meets its contract. Assumes nothing.
-use Prim.Native.Nat.{◌≤◌, ◌<◌, ◌-◌}
 use borrow.Author.Rules.{rules}
 use native.Mathlib.Omega.{arith}
-use Rattle.record.proofs.SetStores.{Emitted, emitted_start, emitted_on, emitted_all, emitted_length}
+use Rattle.record.proofs.SetStores.{emitted_start, emitted_on, emitted_all, emitted_length}
 use Rattle.record.proofs.writer.put_kinds.Goals as goal
 
 pub loop-kind-init : goal.loop-kind-init

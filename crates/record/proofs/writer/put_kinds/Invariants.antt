@@ -1,8 +1,6 @@
 -- `record::writer::put_kinds` meets its contract. Assumes nothing.
 use Prim.Native.Nat.{◌≤◌, ◌<◌, ◌-◌}
-use borrow.Author.Rules.{rules}
-use native.Mathlib.Omega.{arith}
-use Rattle.record.proofs.SetStores.{Emitted, emitted_start, emitted_on, emitted_all, emitted_length}
+use Rattle.record.proofs.SetStores.{Emitted}
 use Rattle.record.proofs.writer.put_kinds.Given as goal
 
 abbrev pub invariant-loop-kind : goal.invariant-loop-kind

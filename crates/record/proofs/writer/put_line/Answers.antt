@@ -4,7 +4,6 @@ use Rattle.record.proofs.LineStores.{name_short, line_empty, line_named}
 use mathlib.Core.Path.{ap}
 use native.Mathlib.Omega.{arith}
 use lib.ListN.{length}
-use borrow.Author.Rules.{rules}
 use Rattle.record.proofs.writer.put_line.Goals as goal
 
 pub returns-then-src-eq0 : goal.returns-then-src-eq0

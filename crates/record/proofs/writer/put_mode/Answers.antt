@@ -1,7 +1,6 @@
 -- `record::writer::put_mode` meets its contract. Assumes nothing.
 use native.Mathlib.Omega.{arith}
-use Rattle.record.proofs.Framed.{start_small, lines_cut}
-use Rattle.record.proofs.LineStores.{lines_short, text_stored}
+use Rattle.record.proofs.Framed.{start_small}
 use borrow.Author.Rules.{rules}
 use Rattle.record.proofs.writer.put_mode.Goals as goal
 

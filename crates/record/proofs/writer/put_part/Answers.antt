@@ -4,7 +4,6 @@ use lib.IntN.{pos}
 use Rattle.record.specs.Text.{bytes}
 use native.Mathlib.Omega.{arith}
 use Rattle.record.proofs.LineStores.{line_empty, line_full}
-use borrow.Author.Rules.{rules}
 use Rattle.record.proofs.writer.put_part.Goals as goal
 
 pub returns-then-src-eq0 : goal.returns-then-src-eq0

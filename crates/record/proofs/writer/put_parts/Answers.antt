@@ -3,7 +3,6 @@ use Rattle.params.specs.Row.{lists}
 use lib.ListN.{get_or, take, drop}
 use Prim.Native.Nat.{◌+◌, ◌-◌}
 use Rattle.record.proofs.KindStores.{parts_stored, counts_part, numbers_slots}
-use borrow.Author.Rules.{rules}
 use Rattle.record.proofs.writer.put_parts.Goals as goal
 
 pub returns : goal.returns

@@ -2,7 +2,6 @@
 use Rattle.record.specs.Description.{record_of}
 use Rattle.record.proofs.ReadPlaces.{none_before}
 use Rattle.record.proofs.SetStores.{fitted_room, fitted_done}
-use borrow.Author.Rules.{rules}
 use Rattle.record.proofs.writer.write_allowed.Goals as goal
 
 pub returns-then-room-length : goal.returns-then-room-length

@@ -1,6 +1,5 @@
 -- `record::writer::write_record` meets its contract. Assumes nothing.
 use Rattle.record.proofs.SetStores.{write_lent, write_row, write_never, checked, write_done}
-use borrow.Author.Rules.{rules}
 use Rattle.record.proofs.writer.write_record.Goals as goal
 
 pub write_allowed-requires : goal.write_allowed-requires
