@@ -74,8 +74,8 @@ pub(crate) fn part_start(kind: usize, mode: usize) -> usize
 // The line of a kind's samples, where there is one, into its part of the arena.
 fn part_at(s: &[u8], at: usize, kind: usize, mode: usize, arena: &mut [i32]) -> Scan
     requires { at ≤ length s.now }
-    ensures scanned { result ≡ seen (readAt (line (bytes "samples=") (pos 0) signed (sampleCount kind mode)) s.now at) }
-    ensures stored { (vs : List ℤ) (q : ℕ) → readAt (line (bytes "samples=") (pos 0) signed (sampleCount kind mode)) s.now at ≡ got vs q → arena.new ≡ sets arena.old (start_of kind) vs }
+    ensures scanned { result ≡ seen (read_at (line (bytes "samples=") (pos 0) signed (sample_count kind mode)) s.now at) }
+    ensures stored { (vs : List ℤ) (q : ℕ) → read_at (line (bytes "samples=") (pos 0) signed (sample_count kind mode)) s.now at ≡ got vs q → arena.new ≡ sets arena.old (start_of kind) vs }
 {
     let n = sample_count(kind, mode);
     if n == 0 {

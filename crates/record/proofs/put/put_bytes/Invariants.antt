@@ -1,0 +1,12 @@
+-- `record::put::put_bytes` meets its contract: what is passed is stored. Assumes nothing.
+use mathlib.Core.Path.{◌≡◌}
+use Prim.Native.Nat.{◌+◌, ◌-◌, ◌≤◌, ◌<◌}
+use lib.ListN.{length, take}
+use lib.Seq.{sets}
+use Rattle.record.proofs.put.put_bytes.Given as goal
+
+abbrev pub invariant-loop-i : goal.invariant-loop-i
+invariant-loop-i l = (l.i ≤ length l.w) × (l.at + length l.w < 9223372036854775808) × (l.out ≡ sets l.initial.out l.at (take l.i l.w))
+
+abbrev pub decreases-loop-i : goal.decreases-loop-i
+decreases-loop-i l = length l.w - l.i

@@ -1,0 +1,16 @@
+-- `record::writer::emit` meets its contract. Assumes nothing.
+use native.Mathlib.Omega.{arith}
+use Rattle.record.proofs.SetStores.{kind_long, flag_small, emit_default, emit_kinds}
+use Rattle.record.proofs.writer.emit.Goals as goal
+
+pub bounds-rows-126 : goal.bounds-rows-126
+bounds-rows-126 c = let a = c.args in omega (arith, kind_long a.rows.now a.samples.now c.requires)
+
+pub put_header-p-requires : goal.put_header-p-requires
+put_header-p-requires c = let a = c.args in flag_small a.rows.now a.samples.now c.requires
+
+pub returns-then-flag-eq1 : goal.returns-then-flag-eq1
+returns-then-flag-eq1 c = let a = c.args in emit_default a.rows.now a.samples.now a.out.now _ _ c.if-flag-eq1.true c.put_header-p.ensures
+
+pub returns : goal.returns
+returns c = let a = c.args in emit_kinds a.rows.now a.samples.now a.out.now _ _ _ _ c.if-flag-eq1.false c.put_header-p.ensures c.put_kinds.ensures
