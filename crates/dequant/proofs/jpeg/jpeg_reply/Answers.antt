@@ -26,11 +26,6 @@ slots c = (given _ _ _ (lent c)).slots
 passed : (c : In-Done) → let a = c.args in row_allowed 0 (row_at a.rows.now 0) ≡ true
 passed c = row_done _ _ (sym c.check_row.ensures ∙ c.enum_told-1.given.1)
 
-pub returns-then-not-jpeg_lent : goal.returns-then-not-jpeg_lent
-returns-then-not-jpeg_lent c =
-    let a = c.args in
-    says_lent a.rows.now (length a.samples.now) a.channel (sym c.jpeg_lent.ensures ∙ not-true _ c.if-not-jpeg_lent.true)
-
 pub slice_bounds-check_row-end : goal.slice_bounds-check_row-end
 slice_bounds-check_row-end c = sym (length-take-le 128 c.args.rows.now (omega (arith, slots c.before)))
 
@@ -61,3 +56,8 @@ pub returns : goal.returns
 returns c =
     let e = c.before.before.before.before.before in
     says_raw _ _ _ (lent e.before.before.before.before) (passed e) false c.if-rows-ne7.false (sym c.if-is_denominator.false ∙ c.is_denominator.ensures)
+
+pub returns-then-not-jpeg_lent : goal.returns-then-not-jpeg_lent
+returns-then-not-jpeg_lent c =
+    let a = c.args in
+    says_lent a.rows.now (length a.samples.now) a.channel (sym c.jpeg_lent.ensures ∙ not-true _ c.if-not-jpeg_lent.true)

@@ -31,30 +31,14 @@ odd c = let told = c.before.before in says_denom _ _ _ _ _ (lent told.before.bef
 above : (c : Else-odd-lt-COUNT) → 17 ≤ denom_fault c.args.rows.now
 above c = omega (arith, c.first_odd-odd.ensures, c.if-odd-lt-COUNT.false)
 
-pub returns-then-not-set_lent : goal.returns-then-not-set_lent
-returns-then-not-set_lent c =
-    let a = c.args in
-    (says_lent a.rows.now a.samples.now _ _ (sym c.set_lent.ensures ∙ not-true _ c.if-not-set_lent.true), (refl, refl))
-
 pub first_odd-odd-requires : goal.first_odd-odd-requires
 first_odd-odd-requires c = slots c.before.before
-
-pub returns-then-odd-lt-COUNT : goal.returns-then-odd-lt-COUNT
-returns-then-odd-lt-COUNT c = (odd c, (refl, refl))
 
 pub expand_kinds-requires : goal.expand_kinds-requires
 expand_kinds-requires c =
     let passes = c.before.before in
     let told = passes.before.before in
     fits _ _ _ _ (lent told.before.before) (fine told) (above passes)
-
-pub returns-else-odd-lt-COUNT : goal.returns-else-odd-lt-COUNT
-returns-else-odd-lt-COUNT c =
-    let passes = c.before.before.before.before.before.before.before in
-    let told = passes.before.before in
-    let a = told.args in
-    let x = c.expand_kinds in
-    (x.ensures.0 ∙ says_kinds a.rows.now a.samples.now _ _ (lent told.before.before) (fine told) (above passes), (x.ensures.1.0, x.ensures.1.1))
 
 pub returns-in-Lent : goal.returns-in-Lent
 returns-in-Lent c = let checked = c.before.before in absurd (check_lent _ (slots checked) (sym checked.check_rows-c.ensures ∙ c.enum_told-in-Lent-1.given.1))
@@ -65,3 +49,19 @@ returns-in-Row c =
     let a = checked.args in
     let r = check_row_lem a.rows.now (slots checked) _ (sym checked.check_rows-c.ensures ∙ c.c-1.given.1) in
     (says_row a.rows.now a.samples.now _ _ _ (lent checked) r.0 r.1, (refl, refl))
+
+pub returns-then-not-set_lent : goal.returns-then-not-set_lent
+returns-then-not-set_lent c =
+    let a = c.args in
+    (says_lent a.rows.now a.samples.now _ _ (sym c.set_lent.ensures ∙ not-true _ c.if-not-set_lent.true), (refl, refl))
+
+pub returns-then-odd-lt-COUNT : goal.returns-then-odd-lt-COUNT
+returns-then-odd-lt-COUNT c = (odd c, (refl, refl))
+
+pub returns-else-odd-lt-COUNT : goal.returns-else-odd-lt-COUNT
+returns-else-odd-lt-COUNT c =
+    let passes = c.before.before.before.before.before.before.before in
+    let told = passes.before.before in
+    let a = told.args in
+    let x = c.expand_kinds in
+    (x.ensures.0 ∙ says_kinds a.rows.now a.samples.now _ _ (lent told.before.before) (fine told) (above passes), (x.ensures.1.0, x.ensures.1.1))

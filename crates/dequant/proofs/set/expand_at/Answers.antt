@@ -39,28 +39,3 @@ pub slice_bounds-expand_kind-end-3 : goal.slice_bounds-expand_kind-end-3
 slice_bounds-expand_kind-end-3 c =
     let e = end_le c.args.kind in
     omega (arith, c.arena_start-at.ensures, c.arena_length.ensures, c.requires.1.first, c.requires.1.second)
-
-pub returns : goal.returns
-returns c =
-    let a = c.args in
-    let p = c.requires in
-    let st = c.arena_start-at in
-    let pl = c.arena_length in
-    let so = c.samples_of in
-    let x = c.expand_kind in
-    let k = a.kind in
-    let rows = a.rows.now in
-    let zs = a.samples.now in
-    let s = a.straight.now in
-    let t = a.transposed.now in
-    let cut-s = cut k st.result pl.result s st.ensures pl.ensures in
-    let cut-t = cut k st.result pl.result t st.ensures pl.ensures in
-    let cut-z = so.ensures ∙ cut k st.result pl.result zs st.ensures pl.ensures in (
-      answered rows zs s t p.1 k p.0 _ _ _ _ (cut_row k rows) cut-z cut-s cut-t x.result x.ensures.0,
-      (
-        put_laid k st.result pl.result s x.new.1.1.1.0 st.ensures pl.ensures
-            ∙ ap (λ (y : List Float). laid k y s) (left_straight rows zs s t p.1 k p.0 _ _ _ _ (cut_row k rows) cut-z cut-s cut-t x.result x.new.1.1.1.0 x.ensures.1.0),
-        put_laid k st.result pl.result t x.new.1.1.1.1.0 st.ensures pl.ensures
-            ∙ ap (λ (y : List Float). laid k y t) (left_transposed rows zs s t p.1 k p.0 _ _ _ _ (cut_row k rows) cut-z cut-s cut-t x.result x.new.1.1.1.1.0 x.ensures.1.1),
-      ),
-    )

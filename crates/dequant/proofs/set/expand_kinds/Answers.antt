@@ -31,27 +31,6 @@ expand_at-a-requires c =
     let a = c.args in
     (c.loop-k-test.true, again a.rows.now (length a.samples.now) _ _ _ _ l.invariant.1 l.invariant.2 c.requires)
 
-pub shape_of-straight-then-not-is_done : goal.shape_of-straight-then-not-is_done
-shape_of-straight-then-not-is_done c = c.clear.auto.0 ∙ c.expand_at-a.auto.1.1.1.0 ∙ c.loop-k.invariant.1
-
-pub shape_of-transposed-then-not-is_done : goal.shape_of-transposed-then-not-is_done
-shape_of-transposed-then-not-is_done c = c.clear-then-not-is_done.auto.0 ∙ c.expand_at-a.auto.1.1.1.1.0 ∙ c.loop-k.invariant.2
-
-pub returns-then-not-is_done : goal.returns-then-not-is_done
-returns-then-not-is_done c =
-    let a = c.args in
-    let l = c.loop-k in
-    let x = c.expand_at-a in
-    let rows = a.rows.now in
-    let zs = a.samples.now in
-    let g = sym c.is_done.ensures ∙ not-true _ c.if-not-is_done.true in (
-      stops_answer rows zs l.k x.result l.invariant.3 x.ensures.0 g c.loop-k-test.true,
-      (
-        refusal_leaves (row_at rows l.k) (part l.k zs) l.k x.result _ a.straight.now x.new.1.1.1.0 _ x.ensures.0 g c.clear.ensures (x.auto.1.1.1.0 ∙ l.invariant.1),
-        refusal_leaves (row_at rows l.k) (part l.k zs) l.k x.result _ a.transposed.now x.new.1.1.1.1.0 _ x.ensures.0 g c.clear-then-not-is_done.ensures (x.auto.1.1.1.1.0 ∙ l.invariant.2),
-      ),
-    )
-
 pub loop-k-preserved : goal.loop-k-preserved
 loop-k-preserved c =
     let a = c.args in
@@ -69,19 +48,4 @@ loop-k-preserved c =
           (x.ensures.1.0 ∙ ap (λ (r : Expanded). laid l.k (leaves r (straight_of rows zs l.k) (part l.k l.straight)) l.straight) done),
       turn_laid (transposed_of rows zs) l.k l.transposed _ (l.invariant.2 ∙ fit.second) (transposed_length rows zs l.k) l.invariant.5
           (x.ensures.1.1 ∙ ap (λ (r : Expanded). laid l.k (leaves r (transposed_of rows zs l.k) (part l.k l.transposed)) l.transposed) done),
-    )
-
-pub returns : goal.returns
-returns c =
-    let a = c.args in
-    let fit = c.requires in
-    let l = c.loop-k in
-    let rows = a.rows.now in
-    let zs = a.samples.now in
-    let e : l.k ≡ 17 = omega arith in (
-      sym l.invariant.3 ∙ ap (kinds_answer rows zs) e,
-      (
-        all_laid (straight_of rows zs) l.k l.straight (l.invariant.1 ∙ fit.first) e l.invariant.4,
-        all_laid (transposed_of rows zs) l.k l.transposed (l.invariant.2 ∙ fit.second) e l.invariant.5,
-      ),
     )
