@@ -1,7 +1,6 @@
 -- `jpeg::jpeg_lent` meets its contract: the tests in a row. Assumes nothing.
 use mathlib.Core.Bool.{true, false, not}
 use lib.Dec.{eqb}
-use borrow.Author.Rules.{rules}
 use Rattle.params.specs.Allowed.{mode_at}
 use Rattle.matrix.proofs.Lending.{all_samples, some_samples, no_samples}
 use Rattle.dequant.proofs.JpegLaws.{no_rows, no_channel, by_samples}

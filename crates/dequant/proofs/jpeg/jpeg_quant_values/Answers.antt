@@ -2,7 +2,6 @@
 use mathlib.Core.Path.{◌≡◌, sym, ap, ◌∙◌}
 use Prim.Native.Nat.{ℕ, ◌+◌, ◌-◌, ◌*◌, ◌<◌}
 use native.Mathlib.Omega.{arith}
-use borrow.Author.Rules.{rules}
 use lib.ListN.{length, take, drop}
 use Rattle.dequant.specs.declared.jpeg.Jpeg.TheVariants.{Done, Lent, Row, None}
 use Rattle.dequant.proofs.JpegLaws.{done_says, values_are}
@@ -11,7 +10,7 @@ use Rattle.dequant.proofs.jpeg.jpeg_quant_values.Goals as goal
 pub overflow_mul-at : goal.overflow_mul-at
 overflow_mul-at c =
     let a = c.args in
-    let g = done_says a.rows.now (length a.samples.now) a.channel (sym c.jpeg_reply-r.ensures ∙ c.enum_told-1.given.1) in
+    let g = done_says a.rows.now (length a.samples.now) a.channel (sym c.jpeg_reply-r.ensures ∙ c.in-Done.is) in
     let h : length a.samples.now ≡ 394752 = g.samples in
     let i : a.channel < 3 = g.channel in
     omega arith
@@ -19,7 +18,7 @@ overflow_mul-at c =
 pub overflow_add-end : goal.overflow_add-end
 overflow_add-end c =
     let a = c.args in
-    let g = done_says a.rows.now (length a.samples.now) a.channel (sym c.jpeg_reply-r.ensures ∙ c.enum_told-1.given.1) in
+    let g = done_says a.rows.now (length a.samples.now) a.channel (sym c.jpeg_reply-r.ensures ∙ c.in-Done.is) in
     let h : length a.samples.now ≡ 394752 = g.samples in
     let i : a.channel < 3 = g.channel in
     omega arith
@@ -27,7 +26,7 @@ overflow_add-end c =
 pub offset_bounds-samples-at : goal.offset_bounds-samples-at
 offset_bounds-samples-at c =
     let a = c.args in
-    let g = done_says a.rows.now (length a.samples.now) a.channel (sym c.jpeg_reply-r.ensures ∙ c.enum_told-1.given.1) in
+    let g = done_says a.rows.now (length a.samples.now) a.channel (sym c.jpeg_reply-r.ensures ∙ c.in-Done.is) in
     let h : length a.samples.now ≡ 394752 = g.samples in
     let i : a.channel < 3 = g.channel in
     omega arith
@@ -35,7 +34,7 @@ offset_bounds-samples-at c =
 pub slice_bounds-result-end : goal.slice_bounds-result-end
 slice_bounds-result-end c =
     let a = c.args in
-    let g = done_says a.rows.now (length a.samples.now) a.channel (sym c.jpeg_reply-r.ensures ∙ c.enum_told-1.given.1) in
+    let g = done_says a.rows.now (length a.samples.now) a.channel (sym c.jpeg_reply-r.ensures ∙ c.in-Done.is) in
     let h : length a.samples.now ≡ 394752 = g.samples in
     let i : a.channel < 3 = g.channel in
     omega arith
@@ -46,19 +45,19 @@ returns-in-Done c =
     let n = a.channel in
     let e : n * 64 + 64 - n * 64 ≡ 64 = omega arith in
     ap (λ (k : ℕ). take k (drop (n * 64) a.samples.now)) e
-    ∙ values_are a.rows.now a.samples.now n Done (sym c.enum_told-1.given.1 ∙ c.jpeg_reply-r.ensures)
+    ∙ values_are a.rows.now a.samples.now n Done (sym c.in-Done.is ∙ c.jpeg_reply-r.ensures)
 
 pub returns-in-Lent : goal.returns-in-Lent
 returns-in-Lent c =
     let a = c.args in
-    values_are a.rows.now a.samples.now a.channel Lent (sym c.enum_told-in-Lent-1.given.1 ∙ c.jpeg_reply-r.ensures)
+    values_are a.rows.now a.samples.now a.channel Lent (sym c.in-Lent.is ∙ c.jpeg_reply-r.ensures)
 
 pub returns-in-Row : goal.returns-in-Row
 returns-in-Row c =
     let a = c.args in
-    values_are a.rows.now a.samples.now a.channel (Row _) (sym c.enum_told-in-Row-1.given.1 ∙ c.jpeg_reply-r.ensures)
+    values_are a.rows.now a.samples.now a.channel (Row _) (sym c.in-Row.is ∙ c.jpeg_reply-r.ensures)
 
 pub returns-in-None : goal.returns-in-None
 returns-in-None c =
     let a = c.args in
-    values_are a.rows.now a.samples.now a.channel None (sym c.enum_told-in-None-1.given.1 ∙ c.jpeg_reply-r.ensures)
+    values_are a.rows.now a.samples.now a.channel None (sym c.in-None.is ∙ c.jpeg_reply-r.ensures)

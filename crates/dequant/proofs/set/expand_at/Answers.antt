@@ -2,7 +2,6 @@
 use mathlib.Core.Path.{ap, ◌∙◌}
 use mathlib.Core.List.{List}
 use native.Mathlib.Omega.{arith}
-use borrow.Author.Rules.{rules}
 use lib.Ieee.{Float}
 use Rattle.transform.specs.Kinds.{laid}
 use Rattle.transform.proofs.Laws.{end_le}
@@ -39,3 +38,56 @@ pub slice_bounds-expand_kind-end-3 : goal.slice_bounds-expand_kind-end-3
 slice_bounds-expand_kind-end-3 c =
     let e = end_le c.args.kind in
     omega (arith, c.arena_start-at.ensures, c.arena_length.ensures, c.requires.1.first, c.requires.1.second)
+
+pub returns-clause-answer : goal.returns-clause-answer
+returns-clause-answer c =
+    let a = c.args in
+    let p = c.requires in
+    let st = c.arena_start-at in
+    let pl = c.arena_length in
+    let x = c.expand_kind in
+    let k = a.kind in
+    let rows = a.rows.now in
+    let zs = a.samples.now in
+    let s = a.straight.now in
+    let t = a.transposed.now in
+    let cut-s = cut k st.result pl.result s st.ensures pl.ensures in
+    let cut-t = cut k st.result pl.result t st.ensures pl.ensures in
+    let cut-z = c.samples_of.ensures ∙ cut k st.result pl.result zs st.ensures pl.ensures in
+    answered rows zs s t p.1 k p.0 _ _ _ _ (cut_row k rows) cut-z cut-s cut-t x.result x.ensures.answer
+
+pub returns-clause-straight : goal.returns-clause-straight
+returns-clause-straight c =
+    let a = c.args in
+    let p = c.requires in
+    let st = c.arena_start-at in
+    let pl = c.arena_length in
+    let x = c.expand_kind in
+    let k = a.kind in
+    let rows = a.rows.now in
+    let zs = a.samples.now in
+    let s = a.straight.now in
+    let t = a.transposed.now in
+    let cut-s = cut k st.result pl.result s st.ensures pl.ensures in
+    let cut-t = cut k st.result pl.result t st.ensures pl.ensures in
+    let cut-z = c.samples_of.ensures ∙ cut k st.result pl.result zs st.ensures pl.ensures in
+    put_laid k st.result pl.result s x.new.straight st.ensures pl.ensures
+    ∙ ap (λ (y : List Float). laid k y s) (left_straight rows zs s t p.1 k p.0 _ _ _ _ (cut_row k rows) cut-z cut-s cut-t x.result x.new.straight x.ensures.straight)
+
+pub returns-clause-transposed : goal.returns-clause-transposed
+returns-clause-transposed c =
+    let a = c.args in
+    let p = c.requires in
+    let st = c.arena_start-at in
+    let pl = c.arena_length in
+    let x = c.expand_kind in
+    let k = a.kind in
+    let rows = a.rows.now in
+    let zs = a.samples.now in
+    let s = a.straight.now in
+    let t = a.transposed.now in
+    let cut-s = cut k st.result pl.result s st.ensures pl.ensures in
+    let cut-t = cut k st.result pl.result t st.ensures pl.ensures in
+    let cut-z = c.samples_of.ensures ∙ cut k st.result pl.result zs st.ensures pl.ensures in
+    put_laid k st.result pl.result t x.new.transposed st.ensures pl.ensures
+    ∙ ap (λ (y : List Float). laid k y t) (left_transposed rows zs s t p.1 k p.0 _ _ _ _ (cut_row k rows) cut-z cut-s cut-t x.result x.new.transposed x.ensures.transposed)

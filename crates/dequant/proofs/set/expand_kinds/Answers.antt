@@ -1,11 +1,9 @@
 -- `set::expand_kinds` meets its contract. The invariant: the kinds below k are accepted, and their weights stand in both arenas. Assumes nothing.
 use mathlib.Core.Path.{◌≡◌, refl, sym, ap, ◌∙◌}
 use mathlib.Core.List.{List}
-use Prim.Native.Nat.{ℕ, ◌-◌, ◌≤◌}
+use Prim.Native.Nat.{ℕ}
 use native.Mathlib.Omega.{arith}
-use borrow.Author.Rules.{rules}
-use borrow.Author.Tests.{not-true, not-false}
-use lib.ListN.{length, take}
+use lib.ListN.{length}
 use Rattle.transform.specs.Kinds.{start_of, part, laid}
 use Rattle.params.specs.Allowed.{row_at}
 use Rattle.matrix.specs.Expanded.{leaves}
@@ -39,13 +37,59 @@ loop-k-preserved c =
     let x = c.expand_at-a in
     let rows = a.rows.now in
     let zs = a.samples.now in
-    let done = done_is x.result (sym c.is_done.ensures ∙ not-false _ c.if-not-is_done.false) in (
+    let done = done_is x.result (sym c.is_done.ensures ∙ c.if-not-is_done.false) in (
       omega arith,
-      x.auto.1.1.1.0 ∙ l.invariant.1,
-      x.auto.1.1.1.1.0 ∙ l.invariant.2,
-      turn_answer rows zs l.k Done l.invariant.3 (sym done ∙ x.ensures.0),
+      x.auto.straight ∙ l.invariant.1,
+      x.auto.transposed ∙ l.invariant.2,
+      turn_answer rows zs l.k Done l.invariant.3 (sym done ∙ x.ensures.answer),
       turn_laid (straight_of rows zs) l.k l.straight _ (l.invariant.1 ∙ fit.first) (straight_length rows zs l.k) l.invariant.4
-          (x.ensures.1.0 ∙ ap (λ (r : Expanded). laid l.k (leaves r (straight_of rows zs l.k) (part l.k l.straight)) l.straight) done),
+          (x.ensures.straight ∙ ap (λ (r : Expanded). laid l.k (leaves r (straight_of rows zs l.k) (part l.k l.straight)) l.straight) done),
       turn_laid (transposed_of rows zs) l.k l.transposed _ (l.invariant.2 ∙ fit.second) (transposed_length rows zs l.k) l.invariant.5
-          (x.ensures.1.1 ∙ ap (λ (r : Expanded). laid l.k (leaves r (transposed_of rows zs l.k) (part l.k l.transposed)) l.transposed) done),
+          (x.ensures.transposed ∙ ap (λ (r : Expanded). laid l.k (leaves r (transposed_of rows zs l.k) (part l.k l.transposed)) l.transposed) done),
     )
+
+pub returns-then-not-is_done-clause-answer : goal.returns-then-not-is_done-clause-answer
+returns-then-not-is_done-clause-answer c =
+    let a = c.args in
+    let l = c.loop-k in
+    let x = c.expand_at-a in
+    let rows = a.rows.now in
+    let zs = a.samples.now in
+    let g = sym c.is_done.ensures ∙ c.if-not-is_done.true in
+    stops_answer rows zs l.k x.result l.invariant.3 x.ensures.answer g c.loop-k-test.true
+
+pub returns-then-not-is_done-clause-straight : goal.returns-then-not-is_done-clause-straight
+returns-then-not-is_done-clause-straight c =
+    let a = c.args in
+    let l = c.loop-k in
+    let x = c.expand_at-a in
+    let rows = a.rows.now in
+    let zs = a.samples.now in
+    let g = sym c.is_done.ensures ∙ c.if-not-is_done.true in
+    refusal_leaves (row_at rows l.k) (part l.k zs) l.k x.result _ a.straight.now x.new.straight _ x.ensures.answer g c.clear.ensures (x.auto.straight ∙ l.invariant.1)
+
+pub returns-then-not-is_done-clause-transposed : goal.returns-then-not-is_done-clause-transposed
+returns-then-not-is_done-clause-transposed c =
+    let a = c.args in
+    let l = c.loop-k in
+    let x = c.expand_at-a in
+    let rows = a.rows.now in
+    let zs = a.samples.now in
+    let g = sym c.is_done.ensures ∙ c.if-not-is_done.true in
+    refusal_leaves (row_at rows l.k) (part l.k zs) l.k x.result _ a.transposed.now x.new.transposed _ x.ensures.answer g c.clear-then-not-is_done.ensures (x.auto.transposed ∙ l.invariant.2)
+
+pub returns-clause-straight : goal.returns-clause-straight
+returns-clause-straight c =
+    let a = c.args in
+    let fit = c.requires in
+    let l = c.loop-k in
+    let e : l.k ≡ 17 = omega arith in
+    all_laid (straight_of a.rows.now a.samples.now) l.k l.straight (l.invariant.1 ∙ fit.first) e l.invariant.4
+
+pub returns-clause-transposed : goal.returns-clause-transposed
+returns-clause-transposed c =
+    let a = c.args in
+    let fit = c.requires in
+    let l = c.loop-k in
+    let e : l.k ≡ 17 = omega arith in
+    all_laid (transposed_of a.rows.now a.samples.now) l.k l.transposed (l.invariant.2 ∙ fit.second) e l.invariant.5

@@ -1,15 +1,8 @@
 -- `set::first_odd` meets its contract. The loop's invariant: no kind before this one is raw with such a denominator. Assumes nothing.
-use mathlib.Core.Path.{◌≡◌, refl, sym, ap, ◌∙◌}
-use mathlib.Core.Bool.{not}
+use mathlib.Core.Path.{◌≡◌}
 use Prim.Native.Nat.{◌-◌, ◌≤◌}
-use native.Mathlib.Omega.{arith}
-use borrow.Author.Rules.{rules}
 use Rattle.transform.specs.First.{before}
-use Rattle.transform.proofs.FirstLaws.{before_more, before_stop, before_all}
-use Rattle.matrix.specs.Raw.{odd_row}
-use Rattle.dequant.specs.Set.{denom_fault}
 use Rattle.dequant.proofs.Lent.{not_odd}
-use Rattle.dequant.proofs.Kindwise.{cut_row}
 use Rattle.dequant.proofs.set.first_odd.Given as goal
 
 abbrev pub invariant-loop-k : goal.invariant-loop-k

@@ -1,6 +1,5 @@
 -- `set::is_odd` by its two tests. Assumes nothing.
 use mathlib.Core.Path.{sym, ◌∙◌}
-use borrow.Author.Rules.{rules}
 use Rattle.matrix.proofs.OddLaws.{plain_row, raw_row_lem}
 use Rattle.dequant.proofs.set.is_odd.Goals as goal
 

@@ -1,5 +1,4 @@
 -- `set::set_lent` meets its contract: the tests in a row. Assumes nothing.
-use borrow.Author.Rules.{rules}
 use Rattle.dequant.proofs.Lent.{no_rows, no_first, no_second, by_samples}
 use Rattle.dequant.proofs.set.set_lent.Goals as goal
 

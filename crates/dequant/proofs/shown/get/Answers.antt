@@ -1,7 +1,6 @@
 -- `shown::get` meets its contract: lookup at the kind of the transform type. Assumes nothing.
 use mathlib.Core.Path.{ap, ◌∙◌}
 use Prim.Native.Nat.{ℕ}
-use borrow.Author.Rules.{rules}
 use Rattle.dequant.specs.declared.shown.Order.TheVariants.{Straight}
 use Rattle.dequant.specs.Shown.{shown}
 use Rattle.dequant.proofs.shown.get.Goals as goal

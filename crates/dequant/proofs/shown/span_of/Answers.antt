@@ -3,7 +3,6 @@ use mathlib.Core.Path.{◌≡◌, sym, ◌∙◌}
 use mathlib.Core.Bool.{true}
 use Prim.Native.Nat.{◌+◌, ◌*◌, ◌≤◌}
 use native.Mathlib.Omega.{arith}
-use borrow.Author.Rules.{rules}
 use Rattle.dequant.specs.Shown.{found}
 use Rattle.dequant.proofs.Parts.{is_found, span_end, span_yes, span_no}
 use Rattle.dequant.proofs.shown.span_of.Goals as goal
