@@ -3,7 +3,7 @@ ghost use Rattle.std.specs.Prelude.{◌≡◌, [], ◌∷◌, length};
 ghost use Rattle.capi.specs.Said.{said_of};
 
 // A reply's number and values, those that it has not 0.
-#[derive(Drop)]
+#[derive(Clone, Copy)]
 pub(crate) struct Said {
     pub no: u32,
     pub first: u64,

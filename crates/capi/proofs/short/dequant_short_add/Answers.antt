@@ -11,17 +11,16 @@ use Rattle.capi.specs.Bytes.{state_in, add_bytes}
 use Rattle.capi.specs.Said.{said_of, Small, put_bytes}
 use Rattle.capi.proofs.Replies.{returned_other, held_other, kept_other, returned_said, held_said, kept_right}
 use Rattle.capi.proofs.StateBytes.{in_small, add_small, add_bytes_lem}
-use Rattle.capi.proofs.short.dequant_short_add.Statement.{statement}
-use Rattle.capi.proofs.short.dequant_short_add.Tie as tie
+use Rattle.capi.proofs.short.dequant_short_add.Goals as goal
 
-returns : tie.Need-returns
-returns c =
-    let a = c.before.before.before.before.before.args in
+pub returns-then-reply-ne3 : goal.returns-then-reply-ne3
+returns-then-reply-ne3 c =
+    let a = c.args in
     let l = a.arena.now in
     let b = a.state.now in
     let ws = a.weights.now in
     let said = short_reply (add_answer (length l) (state_in b) a.kind (length ws)) in
-    let other = c.if1.true in (
+    let other = c.if-reply-ne3.true in (
       returned_other a.reply.now said other,
       (
         held_other a.reply.now said other,
@@ -31,12 +30,6 @@ returns c =
         ),
       ),
     )
-
-state-of-requires : tie.Need-state-of-requires
-state-of-requires c κs = search rules
-
-add-requires : tie.Need-add-requires
-add-requires c κs = search rules
 
 -- ---- where the step is made
 abbrev Made : Type 0
@@ -55,30 +48,15 @@ stated c =
     let a = (start c).args in
     ap (λ (s : Step). s.state) c.add.ensures.0 ∙ ap (λ (t : State). add_state (length a.arena.now) t a.kind (length a.weights.now)) c.before.state-of.ensures
 
-put-state-requires : tie.Need-put-state-requires
-put-state-requires c κs =
+pub put_state-requires : goal.put_state-requires
+put_state-requires c =
     let d = c.before.before.before.before in
     let a = (start d).args in
-    let small = in_small a.state.now (λ i. (d.before.before.before.before.before.before.before.slice-known2.given i).fits) in
+    let small = in_small a.state.now (λ i. (d.slice_known-2-1.given i).fits) in
     subst Small (sym (stated d)) (add_small (length a.arena.now) (state_in a.state.now) a.kind small (length a.weights.now))
 
-said-short-requires : tie.Need-said-short-requires
-said-short-requires c κs = search rules
-
-say-requires : tie.Need-say-requires
-say-requires c κs = search rules
-
-same_length : tie.Need-same-length
-same_length c = search rules
-
-same-length-2 : tie.Need-same-length-2
-same-length-2 c = search rules
-
-same-length-3 : tie.Need-same-length-3
-same-length-3 c = search rules
-
-returns-2 : tie.Need-returns-2
-returns-2 c =
+pub returns : goal.returns
+returns c =
     let o = c.before.before.before.before.before.before.before in
     let d = o.before.before.before.before.before in
     let a = (start d).args in
@@ -86,31 +64,16 @@ returns-2 c =
     let b = a.state.now in
     let ws = a.weights.now in
     let said = short_reply (add_answer (length l) (state_in b) a.kind (length ws)) in
-    let right = d.before.before.before.before.if1.false in
-    let s = c.before.before.before.before.said-short in
+    let right = d.if-reply-ne3.false in
+    let s = c.said_short in
     let is = s.ensures ∙ ap (λ (f : Answer). said_of (short_reply f)) (answered d) in
-    let told = c.before.before.say.ensures in (
+    let told = c.say.ensures in (
       told.0 ∙ returned_said a.reply.now said s.result is right,
       (
         told.1 ∙ held_said a.reply.now said s.result is right,
         (
-          d.add.ensures.1 ∙ ap (λ (t : State). add_arena l t a.kind ws) d.before.state-of.ensures ∙ kept_right a.reply.now (add_arena l (state_in b) a.kind ws) l right,
-          o.put-state.ensures ∙ ap (put_bytes b) (stated d) ∙ add_bytes_lem (length l) b a.kind (length ws) ∙ kept_right a.reply.now (add_bytes (length l) b a.kind (length ws)) b right,
+          d.add-added.ensures.1 ∙ ap (λ (t : State). add_arena l t a.kind ws) d.state_of.ensures ∙ kept_right a.reply.now (add_arena l (state_in b) a.kind ws) l right,
+          o.put_state.ensures ∙ ap (put_bytes b) (stated d) ∙ add_bytes_lem (length l) b a.kind (length ws) ∙ kept_right a.reply.now (add_bytes (length l) b a.kind (length ws)) b right,
         ),
       ),
     )
-
-pub dequant_short_add_spec : {M : Type 1} → statement M
-dequant_short_add_spec =
-    tie.close
-    (tie.spec
-    returns
-    state-of-requires
-    add-requires
-    put-state-requires
-    said-short-requires
-    say-requires
-    same_length
-    same-length-2
-    same-length-3
-    returns-2)
