@@ -13,24 +13,6 @@ use Rattle.capi.proofs.Replies.{returned_other, held_other, kept_other, returned
 use Rattle.capi.proofs.StateBytes.{in_small, add_small, add_bytes_lem}
 use Rattle.capi.proofs.short.dequant_short_add.Goals as goal
 
-pub returns-then-reply-ne3 : goal.returns-then-reply-ne3
-returns-then-reply-ne3 c =
-    let a = c.args in
-    let l = a.arena.now in
-    let b = a.state.now in
-    let ws = a.weights.now in
-    let said = short_reply (add_answer (length l) (state_in b) a.kind (length ws)) in
-    let other = c.if-reply-ne3.true in (
-      returned_other a.reply.now said other,
-      (
-        held_other a.reply.now said other,
-        (
-          kept_other a.reply.now (add_arena l (state_in b) a.kind ws) l other,
-          kept_other a.reply.now (add_bytes (length l) b a.kind (length ws)) b other,
-        ),
-      ),
-    )
-
 -- ---- where the step is made
 abbrev Made : Type 0
 Made = tie.After-add
@@ -74,6 +56,24 @@ returns c =
         (
           d.add-added.ensures.1 ∙ ap (λ (t : State). add_arena l t a.kind ws) d.state_of.ensures ∙ kept_right a.reply.now (add_arena l (state_in b) a.kind ws) l right,
           o.put_state.ensures ∙ ap (put_bytes b) (stated d) ∙ add_bytes_lem (length l) b a.kind (length ws) ∙ kept_right a.reply.now (add_bytes (length l) b a.kind (length ws)) b right,
+        ),
+      ),
+    )
+
+pub returns-then-reply-ne3 : goal.returns-then-reply-ne3
+returns-then-reply-ne3 c =
+    let a = c.args in
+    let l = a.arena.now in
+    let b = a.state.now in
+    let ws = a.weights.now in
+    let said = short_reply (add_answer (length l) (state_in b) a.kind (length ws)) in
+    let other = c.if-reply-ne3.true in (
+      returned_other a.reply.now said other,
+      (
+        held_other a.reply.now said other,
+        (
+          kept_other a.reply.now (add_arena l (state_in b) a.kind ws) l other,
+          kept_other a.reply.now (add_bytes (length l) b a.kind (length ws)) b other,
         ),
       ),
     )

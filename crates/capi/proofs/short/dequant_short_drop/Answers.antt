@@ -13,23 +13,6 @@ use Rattle.capi.proofs.Replies.{returned_other, held_other, kept_other, returned
 use Rattle.capi.proofs.StateBytes.{in_small, drop_small, drop_bytes_lem}
 use Rattle.capi.proofs.short.dequant_short_drop.Goals as goal
 
-pub returns-then-reply-ne3 : goal.returns-then-reply-ne3
-returns-then-reply-ne3 c =
-    let a = c.args in
-    let l = a.arena.now in
-    let b = a.state.now in
-    let said = short_reply (drop_answer (length l) (state_in b) a.kind) in
-    let other = c.if-reply-ne3.true in (
-      returned_other a.reply.now said other,
-      (
-        held_other a.reply.now said other,
-        (
-          kept_other a.reply.now (drop_arena l (state_in b) a.kind) l other,
-          kept_other a.reply.now (drop_bytes (length l) b a.kind) b other,
-        ),
-      ),
-    )
-
 -- ---- where the step is made
 abbrev Made : Type 0
 Made = tie.After-drop-kind
@@ -72,6 +55,23 @@ returns c =
         (
           d.drop_kind-dropped.ensures.1 ∙ ap (λ (t : State). drop_arena l t a.kind) d.state_of.ensures ∙ kept_right a.reply.now (drop_arena l (state_in b) a.kind) l right,
           o.put_state.ensures ∙ ap (put_bytes b) (stated d) ∙ drop_bytes_lem (length l) b a.kind ∙ kept_right a.reply.now (drop_bytes (length l) b a.kind) b right,
+        ),
+      ),
+    )
+
+pub returns-then-reply-ne3 : goal.returns-then-reply-ne3
+returns-then-reply-ne3 c =
+    let a = c.args in
+    let l = a.arena.now in
+    let b = a.state.now in
+    let said = short_reply (drop_answer (length l) (state_in b) a.kind) in
+    let other = c.if-reply-ne3.true in (
+      returned_other a.reply.now said other,
+      (
+        held_other a.reply.now said other,
+        (
+          kept_other a.reply.now (drop_arena l (state_in b) a.kind) l other,
+          kept_other a.reply.now (drop_bytes (length l) b a.kind) b other,
         ),
       ),
     )

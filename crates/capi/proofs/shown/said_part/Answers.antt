@@ -26,11 +26,6 @@ returns-then-order-gt2 c =
     let a = c.args in
     c.made.ensures ∙ ap said_of (unknown_order a.s a.t a.kind a.channel a.order c.if-order-gt2.true)
 
-pub returns-then-not-names : goal.returns-then-not-names
-returns-then-not-names c =
-    let a = c.args in
-    c.made-then-not-names.ensures ∙ ap said_of (not_there a.s a.t a.kind a.channel a.order c.if-order-gt2.false (sym c.names.ensures ∙ not-true c.names.result c.if-not-names.true))
-
 pub overflow_mul-first : goal.overflow_mul-first
 overflow_mul-first c = omega (arith, ends c)
 
@@ -42,3 +37,8 @@ returns c =
     let a = c.args in
     c.made-2.ensures
     ∙ ap said_of (worked_out a.s a.t a.kind a.channel a.order c.arena_no.result c.arena_start.result c.area-area.result c.if-order-gt2.false (yes c.before.before) c.arena_no.ensures c.arena_start.ensures c.area-area.ensures)
+
+pub returns-then-not-names : goal.returns-then-not-names
+returns-then-not-names c =
+    let a = c.args in
+    c.made-then-not-names.ensures ∙ ap said_of (not_there a.s a.t a.kind a.channel a.order c.if-order-gt2.false (sym c.names.ensures ∙ not-true c.names.result c.if-not-names.true))
