@@ -46,12 +46,7 @@ pub fn dequant_short_add(
 }
 
 // Says where a kind's weights stand in a short arena.
-pub fn dequant_short_lookup(
-    arena: &[f32],
-    state: &[u8],
-    kind: usize,
-    reply: &mut [u64],
-) -> u32
+pub fn dequant_short_lookup(arena: &[f32], state: &[u8], kind: usize, reply: &mut [u64]) -> u32
     ensures answer { result ≡ returned reply.old (short_reply (find_answer (length arena.now) (state_in state.now) kind)) }
     ensures reply { reply.new ≡ held reply.old (short_reply (find_answer (length arena.now) (state_in state.now) kind)) }
 {

@@ -5,7 +5,6 @@ use Rattle.params.specs.declared.read.Reading.{Reading}
 use Rattle.params.specs.Header.{read_header, reply_of}
 use Rattle.capi.specs.Said.{said_of}
 use Rattle.capi.proofs.Replies.{returned_other, held_other, kept_other, returned_said, held_said, kept_right}
-use borrow.Author.Rules.{rules}
 use Rattle.capi.proofs.header.dequant_read_header.Goals as goal
 
 pub returns-then-reply-ne3 : goal.returns-then-reply-ne3

@@ -9,7 +9,6 @@ use Rattle.capi.specs.Parts.{jpeg_reply}
 use Rattle.capi.specs.Said.{said_of}
 use Rattle.capi.proofs.Places.{jpeg_first}
 use Rattle.capi.proofs.Replies.{returned_other, held_other, returned_said, held_said}
-use borrow.Author.Rules.{rules}
 use Rattle.capi.proofs.jpeg.dequant_jpeg_quant_values.Goals as goal
 
 pub returns-then-reply-ne3 : goal.returns-then-reply-ne3

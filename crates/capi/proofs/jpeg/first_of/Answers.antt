@@ -4,7 +4,6 @@ use mathlib.Core.Path.{ap, sym}
 use mathlib.Core.Bool.{Bool, cond}
 use Prim.Native.Nat.{ℕ, ◌*◌}
 use borrow.Author.Tests.{lt-ltb, le-ltb}
-use borrow.Author.Rules.{rules}
 use Rattle.capi.proofs.jpeg.first_of.Goals as goal
 
 abbrev first : ℕ → Bool → ℕ

@@ -2,7 +2,6 @@
 -- Assumes nothing.
 use mathlib.Core.Path.{refl}
 use Rattle.capi.proofs.Replies.{filled}
-use borrow.Author.Rules.{rules}
 use Rattle.capi.proofs.reply.say.Goals as goal
 
 pub returns : goal.returns

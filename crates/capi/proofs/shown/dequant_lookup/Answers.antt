@@ -4,7 +4,6 @@ use mathlib.Core.Path.{◌∙◌}
 use lib.ListN.{length}
 use Rattle.capi.specs.Parts.{lookup_reply}
 use Rattle.capi.proofs.Replies.{returned_other, held_other, returned_said, held_said}
-use borrow.Author.Rules.{rules}
 use Rattle.capi.proofs.shown.dequant_lookup.Goals as goal
 
 pub returns-then-reply-ne3 : goal.returns-then-reply-ne3

@@ -8,13 +8,11 @@ use Rattle.dequant.specs.Shown.{found}
 use Rattle.dequant.proofs.Parts.{is_found, span_end}
 use Rattle.capi.specs.Said.{said_of}
 use Rattle.capi.proofs.Places.{unknown_order, not_there, worked_out}
-use borrow.Author.Rules.{rules}
-use borrow.Author.Tests.{not-true, not-false}
 use Rattle.capi.proofs.shown.said_part.Goals as goal
 use Rattle.capi.proofs.shown.said_part.Goals.{After-arena_start}
 
 yes : (c : After-arena_start) → found c.args.kind c.args.channel c.args.s c.args.t ≡ true
-yes c = sym c.names.ensures ∙ not-false c.names.result c.if-not-names.false
+yes c = sym c.names.ensures ∙ c.if-not-names.false
 
 ends : (c : After-arena_start) → c.arena_start.result + c.args.channel * c.area-area.result + c.area-area.result ≤ 394752
 ends c =
@@ -36,9 +34,9 @@ pub returns : goal.returns
 returns c =
     let a = c.args in
     c.made-2.ensures
-    ∙ ap said_of (worked_out a.s a.t a.kind a.channel a.order c.arena_no.result c.arena_start.result c.area-area.result c.if-order-gt2.false (yes c.before.before) c.arena_no.ensures c.arena_start.ensures c.area-area.ensures)
+    ∙ ap said_of (worked_out a.s a.t a.kind a.channel a.order c.arena_no.result c.arena_start.result c.area-area.result c.if-order-gt2.false (sym c.names.ensures ∙ c.if-not-names.false) c.arena_no.ensures c.arena_start.ensures c.area-area.ensures)
 
 pub returns-then-not-names : goal.returns-then-not-names
 returns-then-not-names c =
     let a = c.args in
-    c.made-then-not-names.ensures ∙ ap said_of (not_there a.s a.t a.kind a.channel a.order c.if-order-gt2.false (sym c.names.ensures ∙ not-true c.names.result c.if-not-names.true))
+    c.made-then-not-names.ensures ∙ ap said_of (not_there a.s a.t a.kind a.channel a.order c.if-order-gt2.false (sym c.names.ensures ∙ c.if-not-names.true))

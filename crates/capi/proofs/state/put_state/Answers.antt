@@ -1,19 +1,14 @@
 -- `capi::state::put_state` meets its contract. The loop's invariant: i kinds are copied behind the first byte. Assumes nothing.
 use mathlib.Core.Path.{◌≡◌, refl, sym, ap, ◌∙◌}
 use mathlib.Core.List.{List}
-use Prim.Native.Nat.{ℕ, ◌+◌, ◌-◌, ◌≤◌}
+use Prim.Native.Nat.{ℕ, ◌+◌}
 use native.Mathlib.Numerals.{add-one}
 use borrow.Author.Rules.{rules}
 use lib.ListN.{length, get_or, set, length-set}
 use lib.Seq.{paste, paste-zero, paste-suc}
-use Rattle.short_arena.proofs.Lending.{seventeen}
+use native.Mathlib.Omega.{arith}
 use Rattle.capi.proofs.StateBytes.{other_bytes, right_bytes, all_put}
 use Rattle.capi.proofs.state.put_state.Goals as goal
-use Rattle.capi.proofs.state.put_state.Goals.{Else-bytes-ne-BYTES}
-
--- the array of a struct has its length
-full : (c : Else-bytes-ne-BYTES) → length c.args.state.kinds ≡ 17
-full c = seventeen c.args.state.kinds c.well_formed.0.1.1.1.0.1.0.1
 
 pub returns-then-bytes-ne-BYTES : goal.returns-then-bytes-ne-BYTES
 returns-then-bytes-ne-BYTES c = other_bytes c.args.bytes.now c.args.state c.if-bytes-ne-BYTES.true
@@ -27,9 +22,8 @@ overflow_cast-bytes c = record { fits = c.requires.kinds c.loop-i.i }
 pub loop-i-preserved : goal.loop-i-preserved
 loop-i-preserved c =
     let l = c.loop-i in
-    let d = c.before.before.before in
-    let a = d.args in
-    let e = full d in (
+    let a = c.args in
+    let e : length a.state.kinds ≡ 17 = omega arith in (
       search rules,
       length-set l.bytes (1 + l.i) _ ∙ l.invariant.1,
       ap (λ (x : List ℕ). set x (1 + l.i) (get_or a.state.kinds l.i 0)) l.invariant.2
@@ -46,9 +40,9 @@ shape_of-bytes c = length-set c.loop-i.bytes 0 _ ∙ c.loop-i.invariant.1
 pub returns : goal.returns
 returns c =
     let l = c.loop-i in
-    let d = c.before.before.before in
-    let a = d.args in
+    let a = c.args in
+    let full : length a.state.kinds ≡ 17 = omega arith in
     let e : l.i ≡ 17 = search rules in
     ap (λ (x : List ℕ). set x 0 a.state.count) (l.invariant.2 ∙ ap (paste a.bytes.now 1 a.state.kinds) e)
-    ∙ all_put a.bytes.now a.state.count a.state.kinds d.if-bytes-ne-BYTES.false (full d)
-    ∙ right_bytes a.bytes.now a.state d.if-bytes-ne-BYTES.false
+    ∙ all_put a.bytes.now a.state.count a.state.kinds c.if-bytes-ne-BYTES.false full
+    ∙ right_bytes a.bytes.now a.state c.if-bytes-ne-BYTES.false

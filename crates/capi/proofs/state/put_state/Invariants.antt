@@ -1,13 +1,8 @@
 -- `capi::state::put_state` meets its contract. The loop's invariant: i kinds are copied behind the first byte. Assumes nothing.
-use mathlib.Core.Path.{◌≡◌, refl, sym, ap, ◌∙◌}
-use mathlib.Core.List.{List}
-use Prim.Native.Nat.{ℕ, ◌+◌, ◌-◌, ◌≤◌}
-use native.Mathlib.Numerals.{add-one}
-use borrow.Author.Rules.{rules}
-use lib.ListN.{length, get_or, set, length-set}
-use lib.Seq.{paste, paste-zero, paste-suc}
-use Rattle.short_arena.proofs.Lending.{seventeen}
-use Rattle.capi.proofs.StateBytes.{other_bytes, right_bytes, all_put}
+use mathlib.Core.Path.{◌≡◌}
+use Prim.Native.Nat.{◌-◌, ◌≤◌}
+use lib.ListN.{length}
+use lib.Seq.{paste}
 use Rattle.capi.proofs.state.put_state.Given as goal
 
 abbrev pub invariant-loop-i : goal.invariant-loop-i
