@@ -99,13 +99,17 @@ module _ (rows : List ℕ) (small : Small rows) where
   unfolding ok
   passes k h (start, w) = writes_allowed start k h (row_at rows k) w
 
+  each : 17 ≤ row_fault rows → (k : ℕ) → k < 17 → ok k ≡ true
+  unfolding ok
+  each h k i = rows_fine rows h k i
+
   unwritten : (k : ℕ) → k < 17 → (ok k ≡ false) ↔ ((start : ℕ) → Writes start k (row_at rows k) → ⊥)
   unfolding ok
   unwritten k h = fails_unwritten k h (row_at rows k) (small_row rows k small)
 
   -- DONE exactly where the rows are 2,176 numbers, each row is one that some reading writes, and slot 126 is not at fault
   pub checked_done : (check_reply (check_rows rows) ≡ 0 ∷ []) ↔ ((length rows ≡ 2176) × (flag_fault rows ≡ false) × ((k : ℕ) → k < 17 → (start : ℕ) × Writes start k (row_at rows k)))
-  checked_done = (λ e. let (l, h) = done_fault rows e in (l, no_flag (flag_fault rows) refl h, λ k i. writes k (unfold ok in rows_fine rows h k i)), back)
+  checked_done = (λ e. let (l, h) = done_fault rows e in (l, no_flag (flag_fault rows) refl h, λ k i. writes k (each h k i)), back)
     where
       no_flag : (b : Bool) → flag_fault rows ≡ b → 17 ≤ row_fault rows → flag_fault rows ≡ false
       no_flag true e h = let z = by_flag true e in absurd (omega arith)

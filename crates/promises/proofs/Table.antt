@@ -122,12 +122,12 @@ module _ (d : ℕ) (z : ℤ) (fine : barred d ≡ false) (above : odd_denominato
 
 pub table_holds : Table
 table_holds = record {
-  p1 = λ rows l. (headers.numbers-hold rows l).p1;
-  p2 = λ rows l. (headers.numbers-hold rows l).p2;
-  p3 = λ rows l. (headers.numbers-hold rows l).p3;
-  p4 = λ rows l. (headers.numbers-hold rows l).p4;
+  p1 = λ rows l. (headers.numbers_hold rows l).p1;
+  p2 = λ rows l. (headers.numbers_hold rows l).p2;
+  p3 = λ rows l. (headers.numbers_hold rows l).p3;
+  p4 = λ rows l. (headers.numbers_hold rows l).p4;
   p5 = halves.p5;
-  p5_float = (halves.p5_float, λ rows l. (headers.numbers-hold rows l).p5);
+  p5_float = (halves.p5_float, λ rows l. (headers.numbers_hold rows l).p5);
   p6 = halves.p6;
   p7 = p7;
   p8 = values 0x1004 (0 ∷ []) refl p8;
@@ -135,6 +135,6 @@ table_holds = record {
   p10 = (gives 0x7bff (pos 1526) refl (not_odd_lem 0x7bff (lit< tt) (lit< tt)) 394752 refl (fin false 1561861 (pos 6)) (weights.p10).0 (weights.p10).1, refuses 0x7bff (pos 1527) refl (not_odd_lem 0x7bff (lit< tt) (lit< tt)) 394752 refl (weights.p10).2);
   p11 = (gives 0x3c00 (pos 99999995) refl (not_odd_lem 0x3c00 (lit< tt) (lit< tt)) 394752 refl (fin false 12499999 (pos 3)) (weights.p11).0 (weights.p11).1, refuses 0x3c00 (pos 99999996) refl (not_odd_lem 0x3c00 (lit< tt) (lit< tt)) 394752 refl (weights.p11).2);
   p12 = gives 0x1004 (pos 16) refl (not_odd_lem 0x1004 (lit< tt) (lit< tt)) 394752 refl (fin false 257 (negsuc 14)) (weights.p12).0 (weights.p12).1;
-  p13 = weights.p13-places;
+  p13 = weights.p13_places;
   p13_mirror = weights.p13;
 }
