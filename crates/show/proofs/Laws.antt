@@ -41,6 +41,3 @@ pub stored_more : {A : Type 0} (at : ℕ → ℕ) (what : ℕ → A) (j : ℕ) (
 unfolding stored
 stored_more at what j l m i a e f g = rw (add-one, e, f, g)
 
--- a part by where it begins and its length
-pub part_is : (s : List ℕ) {t r : List ℕ} {a b n m : ℕ} → r ≡ first_of n t → t ≡ drop a s → a ≡ b → n ≡ m → r ≡ first_of m (drop b s)
-part_is s e f g h = rw (e, f, g, h)
