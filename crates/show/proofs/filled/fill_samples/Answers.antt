@@ -11,7 +11,7 @@ pub loop-p-preserved : goal.loop-p-preserved
 loop-p-preserved c =
     let a = c.args in
     let l = c.loop-p in
-    let e : to_z w32 (of_z w32 c.signed.result) ≡ sample_at a.base a.step a.modulus l.p = to_z-of_z {w = w32} (sfits_of c.signed.type_inv) ∙ c.signed.ensures ∙ ap (to_z w32) (c.wrapping_add_u32.ensures.value ∙ ap (λ (r : ℕ). (a.base + r) % 2 ^ 32) l.invariant.rest_is) in
+    let e : to_z w32 (of_z w32 c.signed.result) ≡ sample_at a.base a.step a.modulus l.p = to_z-of_z {w = w32} (sfits_of c.signed.type_inv) ∙ c.signed.ensures ∙ ap (λ (r : ℕ). to_z w32 ((a.base + r) % 2 ^ 32)) l.invariant.rest_is in
     record {
       in_range = search rules;
       same_length = search rules;
