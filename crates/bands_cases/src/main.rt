@@ -17,13 +17,13 @@ pub(crate) fn bits(x: f32) -> u64 {
     total::bits(x) as u64
 }
 
-pub(crate) fn word<W: Write>(out: &mut W, n: u64) -> io::Result<()> {
-    out.write_all(b" ")?;
-    write!(out, "{n}")
+pub(crate) fn word<W: Write>(to: &mut W, n: u64) -> io::Result<()> {
+    to.write_all(b" ")?;
+    write!(to, "{n}")
 }
 
-pub(crate) fn end_line<W: Write>(out: &mut W) -> io::Result<()> {
-    out.write_all(b"\n")
+pub(crate) fn end_line<W: Write>(to: &mut W) -> io::Result<()> {
+    to.write_all(b"\n")
 }
 
 // The reply's number and values.

@@ -247,12 +247,7 @@ fn run<W: Write>(
     call(out, s, at, part, buffer)
 }
 
-fn run_all<W: Write>(
-    out: &mut W,
-    s: &[u8],
-    part: &mut [i32],
-    buffer: &mut [u8],
-) -> io::Result<()> {
+fn run_all<W: Write>(out: &mut W, s: &[u8], part: &mut [i32], buffer: &mut [u8]) -> io::Result<()> {
     let n = show::word(s, 0) as usize;
     let mut i = 0;
     while i < n {

@@ -136,12 +136,7 @@ fn lent_call<W: Write>(out: &mut W, s: &[u8], at: usize, samples: &[i32]) -> io:
     }
 }
 
-fn filled_call<W: Write>(
-    out: &mut W,
-    s: &[u8],
-    at: usize,
-    samples: &mut [i32],
-) -> io::Result<()> {
+fn filled_call<W: Write>(out: &mut W, s: &[u8], at: usize, samples: &mut [i32]) -> io::Result<()> {
     fill(samples, s, at);
     lent_call(out, s, at, show::first_i32(samples, field(s, at, 3)))
 }

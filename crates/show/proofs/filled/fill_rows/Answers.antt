@@ -14,5 +14,5 @@ loop-j-preserved c =
     record {
       in_range = search rules;
       same_length = search rules;
-      so_far = c.put.ensures ∙ stored_more (λ (j : ℕ). word_at list j / 65536) (λ (j : ℕ). word_at list j % 65536) c.loop-j.j _ _ _ _ c.loop-j.invariant.so_far (ap (λ (x : ℕ). x / 65536) w) (ap (λ (x : ℕ). x % 65536) w)
+      so_far = c.put.ensures ∙ stored_more (λ (j : ℕ). word_at list j / 65536) (λ (j : ℕ). word_at list j % 65536) c.loop-j.j _ _ _ _ c.loop-j.invariant.so_far (ap (λ (x : ℕ). x / 65536) w) (ap (λ (x : ℕ). x % 65536) w);
     }

@@ -8,7 +8,7 @@ abbrev pub invariant-loop-j : goal.invariant-loop-j
 invariant-loop-j l = record {
   in_range : l.j ≤ l.n;
   same_length : length l.rows ≡ length l.initial.rows;
-  so_far : l.rows ≡ stored (λ j. word_at l.list j / 65536) (λ j. word_at l.list j % 65536) l.j l.initial.rows
+  so_far : l.rows ≡ stored (λ j. word_at l.list j / 65536) (λ j. word_at l.list j % 65536) l.j l.initial.rows;
 }
 
 abbrev pub decreases-loop-j : goal.decreases-loop-j

@@ -16,5 +16,5 @@ loop-p-preserved c =
       in_range = search rules;
       same_length = search rules;
       so_far = stored_more (λ (p : ℕ). p) (sample_at a.base a.step a.modulus) l.p _ _ _ _ l.invariant.so_far refl e;
-      rest_is = c.stepped-rest.ensures ∙ ap (λ (r : ℕ). modulo (r + a.step) a.modulus) l.invariant.rest_is ∙ modulo_more l.p a.step a.modulus
+      rest_is = c.stepped-rest.ensures ∙ ap (λ (r : ℕ). modulo (r + a.step) a.modulus) l.invariant.rest_is ∙ modulo_more l.p a.step a.modulus;
     }

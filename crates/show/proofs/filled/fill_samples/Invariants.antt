@@ -8,7 +8,7 @@ invariant-loop-p l = record {
   in_range : l.p ≤ length l.initial.samples;
   same_length : length l.samples ≡ length l.initial.samples;
   so_far : l.samples ≡ stored (λ p. p) (sample_at l.base l.step l.modulus) l.p l.initial.samples;
-  rest_is : l.rest ≡ modulo (l.p * l.step) l.modulus
+  rest_is : l.rest ≡ modulo (l.p * l.step) l.modulus;
 }
 
 abbrev pub decreases-loop-p : goal.decreases-loop-p
