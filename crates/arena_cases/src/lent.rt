@@ -26,9 +26,9 @@ fn put_apart(part: &mut [f32], list: &[u8]) {
 
 // The sum that comes next: at each multiple of 128 the jump is added too.
 fn stepped(sum: u32, p: usize, step: u32, jump: u32) -> u32 {
-    let next = std::num::wrapping_add_u32(sum, step);
+    let next = sum.wrapping_add(step);
     if p % 128 == 127 {
-        return std::num::wrapping_add_u32(next, jump);
+        return next.wrapping_add(jump);
     }
     next
 }

@@ -3,6 +3,8 @@ use crate::calls::number;
 use crate::lent::fill_by;
 use crate::shown::show_total;
 use short_arena::{Answer, State};
+use std::io;
+use std::io::Write;
 
 // The words of a call, by their numbers: which it is, the kind in two words, how many weights are lent, and their rule.
 const WHICH: usize = 0;
@@ -21,25 +23,25 @@ const ADD: u32 = 0;
 
 const LOOKUP: u32 = 1;
 
-fn answer(a: Answer) {
+fn answer<W: Write>(out: &mut W, a: Answer) -> io::Result<()> {
     match a {
-        Answer::Done => show::decimal(0),
+        Answer::Done => show::decimal(out, 0),
         Answer::Part { first, length } => {
-            show::decimal(0);
-            show::next(first as u64);
-            show::next(length as u64);
+            show::decimal(out, 0)?;
+            show::next(out, first as u64)?;
+            show::next(out, length as u64)
         }
-        Answer::Lent => show::decimal(1),
-        Answer::Held => show::decimal(17),
-        Answer::Full => show::decimal(13),
-        Answer::Gone => show::decimal(18),
+        Answer::Lent => show::decimal(out, 1),
+        Answer::Held => show::decimal(out, 17),
+        Answer::Full => show::decimal(out, 13),
+        Answer::Gone => show::decimal(out, 18),
     }
 }
 
-fn show_answer(a: Answer) {
-    show::text(b"reply=");
-    answer(a);
-    show::end();
+fn show_answer<W: Write>(out: &mut W, a: Answer) -> io::Result<()> {
+    show::text(out, b"reply=")?;
+    answer(out, a)?;
+    show::end(out)
 }
 
 // The state in a list of 18 words.
@@ -56,20 +58,26 @@ fn state_of(list: &[u8]) -> State {
     }
 }
 
-fn show_state(state: State) {
-    show::text(b"state=");
-    show::decimal(state.count as u64);
+fn show_state<W: Write>(out: &mut W, state: State) -> io::Result<()> {
+    show::text(out, b"state=")?;
+    show::decimal(out, state.count as u64)?;
     let kinds = state.kinds;
     let mut i = 0;
     while i < 17 {
-        show::comma();
-        show::decimal(kinds[i] as u64);
+        show::comma(out)?;
+        show::decimal(out, kinds[i] as u64)?;
         i += 1;
     }
-    show::end();
+    show::end(out)
 }
 
-fn add(own: &[u8], arena: &mut [f32], state: State, weights: &mut [f32]) -> State {
+fn add<W: Write>(
+    out: &mut W,
+    own: &[u8],
+    arena: &mut [f32],
+    state: State,
+    weights: &mut [f32],
+) -> io::Result<State> {
     fill_by(
         weights,
         show::word(own, RULE),
@@ -79,53 +87,77 @@ fn add(own: &[u8], arena: &mut [f32], state: State, weights: &mut [f32]) -> Stat
     );
     let m = show::word(own, LENGTH) as usize;
     if weights.len() < m {
-        return state;
+        return Ok(state);
     }
     let added = short_arena::add(arena, state, number(own, 0, KIND) as usize, &weights[0..m]);
     let found = added.answer;
-    show_answer(found);
-    added.state
+    show_answer(out, found)?;
+    Ok(added.state)
 }
 
-fn lookup(own: &[u8], arena: &[f32], state: State) {
+fn lookup<W: Write>(out: &mut W, own: &[u8], arena: &[f32], state: State) -> io::Result<()> {
     let kind = number(own, 0, KIND) as usize;
-    show_answer(short_arena::lookup_reply(arena, state, kind));
-    show_total(short_arena::lookup(arena, state, kind));
+    show_answer(out, short_arena::lookup_reply(arena, state, kind))?;
+    show_total(out, short_arena::lookup(arena, state, kind))
 }
 
-fn drop_kind(own: &[u8], arena: &mut [f32], state: State) -> State {
+fn drop_kind<W: Write>(
+    out: &mut W,
+    own: &[u8],
+    arena: &mut [f32],
+    state: State,
+) -> io::Result<State> {
     let dropped = short_arena::drop_kind(arena, state, number(own, 0, KIND) as usize);
     let found = dropped.answer;
-    show_answer(found);
-    dropped.state
+    show_answer(out, found)?;
+    Ok(dropped.state)
 }
 
-fn call(own: &[u8], arena: &mut [f32], state: State, weights: &mut [f32]) -> State {
+fn call<W: Write>(
+    out: &mut W,
+    own: &[u8],
+    arena: &mut [f32],
+    state: State,
+    weights: &mut [f32],
+) -> io::Result<State> {
     let which = show::word(own, WHICH);
     if which == ADD {
-        return add(own, arena, state, weights);
+        return add(out, own, arena, state, weights);
     }
     if which == LOOKUP {
-        lookup(own, arena, state);
-        return state;
+        lookup(out, own, arena, state)?;
+        return Ok(state);
     }
-    drop_kind(own, arena, state)
+    drop_kind(out, own, arena, state)
 }
 
 // The calls of a list, and the state after them.
-fn calls(list: &[u8], arena: &mut [f32], state: State, weights: &mut [f32]) -> State {
+fn calls<W: Write>(
+    out: &mut W,
+    list: &[u8],
+    arena: &mut [f32],
+    state: State,
+    weights: &mut [f32],
+) -> io::Result<State> {
     let n = list.len() / CALL;
     let mut last = state;
     let mut i = 0;
     while i < n {
         let own = show::rest(list, i * CALL);
-        last = call(own, arena, last, weights);
+        last = call(out, own, arena, last, weights)?;
         i += 1;
     }
-    last
+    Ok(last)
 }
 
 // The calls of a list from the state in another on, with room for the weights of one call.
-pub(crate) fn run(list: &[u8], state: &[u8], arena: &mut [f32], weights: &mut [f32]) {
-    show_state(calls(list, arena, state_of(state), weights));
+pub(crate) fn run<W: Write>(
+    out: &mut W,
+    list: &[u8],
+    state: &[u8],
+    arena: &mut [f32],
+    weights: &mut [f32],
+) -> io::Result<()> {
+    let after = calls(out, list, arena, state_of(state), weights)?;
+    show_state(out, after)
 }

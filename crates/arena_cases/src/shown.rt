@@ -1,28 +1,30 @@
 // What is written of each call.
+use std::io;
+use std::io::Write;
 use total::Total;
 
-fn reply(r: Total) {
+fn reply<W: Write>(out: &mut W, r: Total) -> io::Result<()> {
     match r {
         Total::Done { total } => {
-            show::decimal(0);
-            show::next(total);
+            show::decimal(out, 0)?;
+            show::next(out, total)
         }
-        Total::Lent => show::decimal(1),
+        Total::Lent => show::decimal(out, 1),
     }
 }
 
 // The reply of a call: its number, and its value.
-pub(crate) fn show_reply(r: Total) {
-    show::text(b"reply=");
-    reply(r);
-    show::end();
+pub(crate) fn show_reply<W: Write>(out: &mut W, r: Total) -> io::Result<()> {
+    show::text(out, b"reply=")?;
+    reply(out, r)?;
+    show::end(out)
 }
 
 // The total of a part that is shown.
-pub(crate) fn show_total(part: &[f32]) {
-    show::text(b"shown=");
-    show::decimal(show_weights::total(part));
-    show::end();
+pub(crate) fn show_total<W: Write>(out: &mut W, part: &[f32]) -> io::Result<()> {
+    show::text(out, b"shown=")?;
+    show::decimal(out, show_weights::total(part))?;
+    show::end(out)
 }
 
 // Whether two parts have the same bits.
@@ -38,11 +40,15 @@ fn same(a: &[f32], b: &[f32]) -> bool {
 }
 
 // An arena: unchanged, or its total and the weights at the places of a list.
-pub(crate) fn show_arena(arena: &[f32], before: &[f32], places: &[u8]) {
-    show::text(b"arena=");
+pub(crate) fn show_arena<W: Write>(
+    out: &mut W,
+    arena: &[f32],
+    before: &[f32],
+    places: &[u8],
+) -> io::Result<()> {
+    show::text(out, b"arena=")?;
     if same(arena, before) {
-        show::text(b"unchanged\n");
-        return;
+        return show::text(out, b"unchanged\n");
     }
-    show_weights::summary(arena, places);
+    show_weights::summary(out, arena, places)
 }

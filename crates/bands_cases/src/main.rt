@@ -3,6 +3,8 @@
 #![tactic(auto)]
 
 use bands::Banded;
+use std::io;
+use std::io::{BufWriter, Write};
 
 mod power;
 
@@ -15,111 +17,120 @@ pub(crate) fn bits(x: f32) -> u64 {
     total::bits(x) as u64
 }
 
-pub(crate) fn word(n: u64) {
-    io::write_all(1, b" ");
-    io::print_decimal(1, n);
+pub(crate) fn word<W: Write>(to: &mut W, n: u64) -> io::Result<()> {
+    to.write_all(b" ")?;
+    write!(to, "{n}")
 }
 
-pub(crate) fn end_line() {
-    io::write_all(1, b"\n");
+pub(crate) fn end_line<W: Write>(to: &mut W) -> io::Result<()> {
+    to.write_all(b"\n")
 }
 
 // The reply's number and values.
-fn reply(a: Banded) {
-    io::write_all(1, b"reply");
+fn reply<W: Write>(to: &mut W, a: Banded) -> io::Result<()> {
+    to.write_all(b"reply")?;
     match a {
         Banded::Done => {
-            word(0);
+            word(to, 0)?;
         }
         Banded::Lent => {
-            word(1);
+            word(to, 1)?;
         }
         Banded::Band { channel, band } => {
-            word(7);
-            word(long(channel));
-            word(long(band));
+            word(to, 7)?;
+            word(to, long(channel))?;
+            word(to, long(band))?;
         }
     }
-    end_line();
+    end_line(to)
 }
 
-fn weights(out: &[f32]) {
-    io::write_all(1, b"weights");
+fn weights<W: Write>(to: &mut W, out: &[f32]) -> io::Result<()> {
+    to.write_all(b"weights")?;
     let mut i: usize = 0;
     while i < out.len() {
-        word(bits(out[i]));
+        word(to, bits(out[i]))?;
         i += 1;
     }
-    end_line();
+    end_line(to)
 }
 
 // One call: its reply, and what the output holds then.
-fn call(numbers: &[f32], count: usize, w: usize, h: usize, out: &mut [f32]) {
+fn call<W: Write>(
+    to: &mut W,
+    numbers: &[f32],
+    count: usize,
+    w: usize,
+    h: usize,
+    out: &mut [f32],
+) -> io::Result<()> {
     let a = bands::dct_quant_weights(numbers, count, w, h, out);
-    reply(a);
-    weights(out);
+    reply(to, a)?;
+    weights(to, out)
 }
 
 // Mode 5's numbers of three channels at every k.
-fn freqs(p: &[f32; 12]) {
-    io::write_all(1, b"freqs");
+fn freqs<W: Write>(to: &mut W, p: &[f32; 12]) -> io::Result<()> {
+    to.write_all(b"freqs")?;
     let all = bands::freq_weights(p);
     let mut k: usize = 0;
     while k < 48 {
-        word(bits(all[k]));
+        word(to, bits(all[k]))?;
         k += 1;
     }
-    end_line();
+    end_line(to)
 }
 
 // Kind 0's default numbers over four grids; a grid and a count that are LENT. Each output holds 7s before.
-fn defaults() {
+fn defaults<W: Write>(to: &mut W) -> io::Result<()> {
     let d = [
         3150.0f32, 0.0, -0.4, -0.4, -0.4, -2.0, 560.0, 0.0, -0.3, -0.3, -0.3, -0.3, 512.0, -2.0,
         -1.0, 0.0, -1.0, -2.0,
     ];
     let mut o1 = [7.0f32; 192];
-    call(&d, 6, 8, 8, &mut o1);
+    call(to, &d, 6, 8, 8, &mut o1)?;
     let mut o2 = [7.0f32; 48];
-    call(&d, 6, 4, 4, &mut o2);
+    call(to, &d, 6, 4, 4, &mut o2)?;
     let mut o3 = [7.0f32; 96];
-    call(&d, 6, 8, 4, &mut o3);
+    call(to, &d, 6, 8, 4, &mut o3)?;
     let mut o4 = [7.0f32; 768];
-    call(&d, 6, 32, 8, &mut o4);
+    call(to, &d, 6, 32, 8, &mut o4)?;
     let mut o5 = [7.0f32; 96];
-    call(&d, 6, 4, 8, &mut o5);
+    call(to, &d, 6, 4, 8, &mut o5)?;
     let mut o6 = [7.0f32; 192];
-    call(&d, 5, 8, 8, &mut o6);
+    call(to, &d, 5, 8, 8, &mut o6)
 }
 
 // One band; a band that is zero; three bands that grow.
-fn lists() {
+fn lists<W: Write>(to: &mut W) -> io::Result<()> {
     let one = [1.5f32, 2.5, 3.5];
     let mut o1 = [7.0f32; 48];
-    call(&one, 1, 4, 4, &mut o1);
+    call(to, &one, 1, 4, 4, &mut o1)?;
     let zero = [1.0f32, 1.0, 0.0, 1.0, 1.0, 1.0];
     let mut o2 = [7.0f32; 48];
-    call(&zero, 2, 4, 4, &mut o2);
+    call(to, &zero, 2, 4, 4, &mut o2)?;
     let grows = [1.0f32, 1.0, 2.0, 3.0, 1.0, 3.0, 1.0, 1.0, 3.0];
     let mut o3 = [7.0f32; 384];
-    call(&grows, 3, 16, 8, &mut o3);
+    call(to, &grows, 3, 16, 8, &mut o3)
 }
 
 // A default, falling bands and p5 below zero; p5 zero in the first channel.
-fn corners() {
+fn corners<W: Write>(to: &mut W) -> io::Result<()> {
     let kinds = [
         414.0f32, 0.0, 0.0, 0.0, 22.0, -0.25, -0.25, -0.25, -22.0, 3.25, -0.75, 65504.0,
     ];
-    freqs(&kinds);
+    freqs(to, &kinds)?;
     let zero = [
         0.0f32, 3.25, -0.75, 65504.0, 58.0, 0.0, 0.0, 0.0, 1.0, 1.0, 2.0, 3.0,
     ];
-    freqs(&zero);
+    freqs(to, &zero)
 }
 
-fn main() {
-    defaults();
-    lists();
-    corners();
-    power::all();
+fn main(rt: HostRuntime) -> io::Result<()> {
+    let mut to = BufWriter::new(rt.alloc(), io::writer(&rt))?;
+    defaults(&mut to)?;
+    lists(&mut to)?;
+    corners(&mut to)?;
+    power::all(&mut to)?;
+    to.flush()
 }

@@ -2,6 +2,8 @@
 ghost use Rattle.std.specs.Prelude.{◌^◌, ◌<◌};
 
 use crate::{bits, end_line, word};
+use std::io;
+use std::io::Write;
 
 // The next number of a row that both sides make.
 fn next(x: u64) -> u64
@@ -12,139 +14,142 @@ fn next(x: u64) -> u64
 }
 
 // P(q, n / 2^32) for the q with the bits b, up to the infinity's.
-fn power_line(b: u32, n: u32) {
+fn power_line<W: Write>(to: &mut W, b: u32, n: u32) -> io::Result<()> {
     if b > 2139095040 {
-        return;
+        return Ok(());
     }
-    io::write_all(1, b"power");
-    word(b as u64);
-    word(n as u64);
-    word(bits(bands::power(f32::from_bits(b), n)));
-    end_line();
+    to.write_all(b"power")?;
+    word(to, b as u64)?;
+    word(to, n as u64)?;
+    word(to, bits(bands::power(f32::from_bits(b), n)))?;
+    end_line(to)
 }
 
 // The root of the float with the bits b, up to the infinity's.
-fn root_line(b: u32) {
+fn root_line<W: Write>(to: &mut W, b: u32) -> io::Result<()> {
     if b > 2139095040 {
-        return;
+        return Ok(());
     }
-    io::write_all(1, b"root");
-    word(b as u64);
-    word(bits(bands::root32(f32::from_bits(b))));
-    end_line();
+    to.write_all(b"root")?;
+    word(to, b as u64)?;
+    word(to, bits(bands::root32(f32::from_bits(b))))?;
+    end_line(to)
 }
 
-fn whole_line(x: u64) {
-    io::write_all(1, b"whole");
-    word(x);
-    word(bands::whole_root(x));
-    end_line();
+fn whole_line<W: Write>(to: &mut W, x: u64) -> io::Result<()> {
+    to.write_all(b"whole")?;
+    word(to, x)?;
+    word(to, bands::whole_root(x))?;
+    end_line(to)
 }
 
 // Powers of any normal q, of as many near 1, and of as many subnormal ones.
-fn powers() {
+fn powers<W: Write>(to: &mut W) -> io::Result<()> {
     let mut x: u64 = 1;
     let mut i: u64 = 0;
     while i < 200 {
         let a = next(x);
         x = next(a);
-        power_line((8388608 + a % 2130706432) as u32, x as u32);
-        power_line((1006632960 + a % 134217728) as u32, x as u32);
-        power_line((a % 8388608) as u32, x as u32);
+        power_line(to, (8388608 + a % 2130706432) as u32, x as u32)?;
+        power_line(to, (1006632960 + a % 134217728) as u32, x as u32)?;
+        power_line(to, (a % 8388608) as u32, x as u32)?;
         i += 1;
     }
+    Ok(())
 }
 
 // Roots of any float above zero, and of as many subnormal ones.
-fn roots() {
+fn roots<W: Write>(to: &mut W) -> io::Result<()> {
     let mut x: u64 = 2;
     let mut i: u64 = 0;
     while i < 60 {
         x = next(x);
-        root_line((x % 2139095040) as u32);
-        root_line((x % 8388608) as u32);
+        root_line(to, (x % 2139095040) as u32)?;
+        root_line(to, (x % 8388608) as u32)?;
         i += 1;
     }
+    Ok(())
 }
 
-fn wholes() {
+fn wholes<W: Write>(to: &mut W) -> io::Result<()> {
     let mut x: u64 = 3;
     let mut i: u64 = 0;
     while i < 60 {
         let a = next(x);
         x = next(a);
-        whole_line(a * 4294967296 + x);
-        whole_line(x);
+        whole_line(to, a * 4294967296 + x)?;
+        whole_line(to, x)?;
         i += 1;
     }
+    Ok(())
 }
 
 // P at 0, at the least fraction above it, at a half and at the largest below 1.
-fn power_ends(b: u32) {
-    power_line(b, 0);
-    power_line(b, 1);
-    power_line(b, 2147483648);
-    power_line(b, 4294967295);
+fn power_ends<W: Write>(to: &mut W, b: u32) -> io::Result<()> {
+    power_line(to, b, 0)?;
+    power_line(to, b, 1)?;
+    power_line(to, b, 2147483648)?;
+    power_line(to, b, 4294967295)
 }
 
 // The least subnormal, two and three times that, half of the least normal, the largest subnormal, the least normal;
 // then powers of the least on both sides of the least normal, and of half of it.
-fn power_smalls() {
-    power_ends(1);
-    power_ends(2);
-    power_ends(3);
-    power_ends(4194304);
-    power_ends(8388607);
-    power_ends(8388608);
-    power_line(1, 3631985767);
-    power_line(1, 3631985768);
-    power_line(1, 3660811050);
-    power_line(1, 3660811051);
+fn power_smalls<W: Write>(to: &mut W) -> io::Result<()> {
+    power_ends(to, 1)?;
+    power_ends(to, 2)?;
+    power_ends(to, 3)?;
+    power_ends(to, 4194304)?;
+    power_ends(to, 8388607)?;
+    power_ends(to, 8388608)?;
+    power_line(to, 1, 3631985767)?;
+    power_line(to, 1, 3631985768)?;
+    power_line(to, 1, 3660811050)?;
+    power_line(to, 1, 3660811051)
 }
 
 // 1, 2, the largest, the infinity and 0.
-fn power_edges() {
-    power_line(1065353216, 4294967295);
-    power_line(1065353216, 0);
-    power_line(1073741824, 2147483648);
-    power_line(1073741824, 1);
-    power_line(2139095039, 4294967295);
-    power_line(2139095039, 0);
-    power_line(2139095040, 4294967295);
-    power_line(0, 5);
+fn power_edges<W: Write>(to: &mut W) -> io::Result<()> {
+    power_line(to, 1065353216, 4294967295)?;
+    power_line(to, 1065353216, 0)?;
+    power_line(to, 1073741824, 2147483648)?;
+    power_line(to, 1073741824, 1)?;
+    power_line(to, 2139095039, 4294967295)?;
+    power_line(to, 2139095039, 0)?;
+    power_line(to, 2139095040, 4294967295)?;
+    power_line(to, 0, 5)
 }
 
 // 0, the least, the largest subnormal, the least normal, 1, 2, 4, the largest, the infinity.
-fn root_edges() {
-    root_line(0);
-    root_line(1);
-    root_line(2);
-    root_line(3);
-    root_line(8388607);
-    root_line(8388608);
-    root_line(1065353216);
-    root_line(1073741824);
-    root_line(1082130432);
-    root_line(2139095039);
-    root_line(2139095040);
+fn root_edges<W: Write>(to: &mut W) -> io::Result<()> {
+    root_line(to, 0)?;
+    root_line(to, 1)?;
+    root_line(to, 2)?;
+    root_line(to, 3)?;
+    root_line(to, 8388607)?;
+    root_line(to, 8388608)?;
+    root_line(to, 1065353216)?;
+    root_line(to, 1073741824)?;
+    root_line(to, 1082130432)?;
+    root_line(to, 2139095039)?;
+    root_line(to, 2139095040)
 }
 
-fn whole_edges() {
-    whole_line(0);
-    whole_line(1);
-    whole_line(3);
-    whole_line(4);
-    whole_line(18446744065119617024);
-    whole_line(18446744065119617025);
-    whole_line(18446744073709551615);
+fn whole_edges<W: Write>(to: &mut W) -> io::Result<()> {
+    whole_line(to, 0)?;
+    whole_line(to, 1)?;
+    whole_line(to, 3)?;
+    whole_line(to, 4)?;
+    whole_line(to, 18446744065119617024)?;
+    whole_line(to, 18446744065119617025)?;
+    whole_line(to, 18446744073709551615)
 }
 
-pub(crate) fn all() {
-    powers();
-    power_smalls();
-    power_edges();
-    roots();
-    root_edges();
-    wholes();
-    whole_edges();
+pub(crate) fn all<W: Write>(to: &mut W) -> io::Result<()> {
+    powers(to)?;
+    power_smalls(to)?;
+    power_edges(to)?;
+    roots(to)?;
+    root_edges(to)?;
+    wholes(to)?;
+    whole_edges(to)
 }

@@ -2,10 +2,13 @@
 // what lookup shows in the straight order: eight hexadecimal digits for a weight, commas between them.
 #![tactic(auto)]
 
-use libc::STDIN_FILENO;
+use std::io;
+use std::io::{BufWriter, Read, Write};
 
-fn main() {
-    let mut header = [0u8; 2550];
-    let n = io::read_full(STDIN_FILENO, &mut header);
-    show_set::keys(&header[..n]);
+fn main(rt: HostRuntime) -> io::Result<()> {
+    let mut header = Vec::new(rt.alloc());
+    rt.stdin().take(2550).read_to_end(&mut header)?;
+    let mut out = BufWriter::new(rt.alloc(), io::writer(&rt))?;
+    show_set::keys(&mut out, header.as_slice())?;
+    out.flush()
 }

@@ -1,10 +1,13 @@
 // Lists a header: reads at most 2,550 bytes from standard input and writes the record, or the lines of what refuses it.
 #![tactic(auto)]
 
-use libc::STDIN_FILENO;
+use std::io;
+use std::io::{BufWriter, Read, Write};
 
-fn main() {
-    let mut header = [0u8; 2550];
-    let n = io::read_full(STDIN_FILENO, &mut header);
-    show_record::quantlist(&header[..n]);
+fn main(rt: HostRuntime) -> io::Result<()> {
+    let mut header = Vec::new(rt.alloc());
+    rt.stdin().take(2550).read_to_end(&mut header)?;
+    let mut out = BufWriter::new(rt.alloc(), io::writer(&rt))?;
+    show_record::quantlist(&mut out, header.as_slice())?;
+    out.flush()
 }

@@ -1,8 +1,9 @@
 // Reads a header from standard input, at most 2,550 bytes, and writes the reply and the rows.
 #![tactic(auto)]
 
-use libc::STDIN_FILENO;
 use params::Reading;
+use std::io;
+use std::io::{BufWriter, Read, Write};
 
 // Whether rows were written to the end of the header or to a raw kind.
 fn has_rows(r: Reading) -> bool {
@@ -20,19 +21,21 @@ fn has_rows(r: Reading) -> bool {
     }
 }
 
-fn main() {
-    let mut header = [0u8; 2550];
-    let n = io::read_full(STDIN_FILENO, &mut header);
+fn main(rt: HostRuntime) -> io::Result<()> {
+    let mut header = Vec::new(rt.alloc());
+    rt.stdin().take(2550).read_to_end(&mut header)?;
+    let mut out = BufWriter::new(rt.alloc(), io::writer(&rt))?;
     let mut rows = [0u16; 2176];
-    let r = params::read_header(&header[..n], 0, 0, &mut rows);
-    show::reply_line(r);
+    let r = params::read_header(header.as_slice(), 0, 0, &mut rows);
+    show::reply_line(&mut out, r)?;
     if has_rows(r) {
         let mut kind = 0;
         while kind < 17 {
             let at = kind * 128;
             let end = at + 128;
-            show::row(kind, &rows[at..end]);
+            show::row(&mut out, kind, &rows[at..end])?;
             kind += 1;
         }
     }
+    out.flush()
 }

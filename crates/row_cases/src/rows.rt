@@ -1,4 +1,6 @@
 // The rows that a case lends, and what a reading left of those that all held abcd before.
+use std::io;
+use std::io::Write;
 
 // The first n numbers, or none where there are fewer.
 pub(crate) fn first<'a>(rows: &'a mut [u16], n: usize) -> &'a mut [u16] {
@@ -21,29 +23,30 @@ fn untouched(rows: &[u16]) -> bool {
 }
 
 // A row that was written.
-fn touched_row(kind: usize, numbers: &[u16]) {
+fn touched_row<W: Write>(out: &mut W, kind: usize, numbers: &[u16]) -> io::Result<()> {
     if !untouched(numbers) {
-        show::row(kind, numbers);
+        show::row(out, kind, numbers)?;
     }
+    Ok(())
 }
 
-fn touched_rows(rows: &[u16]) {
+fn touched_rows<W: Write>(out: &mut W, rows: &[u16]) -> io::Result<()> {
     let mut kind = 0;
     while kind < 17 {
         let at = kind * 128;
         let end = at + 128;
         if end <= rows.len() {
-            touched_row(kind, &rows[at..end]);
+            touched_row(out, kind, &rows[at..end])?;
         }
         kind += 1;
     }
+    Ok(())
 }
 
 // Each row that was written, of rows that held abcd before.
-pub(crate) fn show_rows(rows: &[u16]) {
+pub(crate) fn show_rows<W: Write>(out: &mut W, rows: &[u16]) -> io::Result<()> {
     if untouched(rows) {
-        show::text(b"rows=unchanged\n");
-        return;
+        return show::text(out, b"rows=unchanged\n");
     }
-    touched_rows(rows);
+    touched_rows(out, rows)
 }

@@ -23,7 +23,7 @@ pub(crate) fn untouched(samples: &[i32]) -> bool {
 // A sample's bits.
 fn bits(x: i32) -> u64 {
     if x < 0 {
-        return std::num::wrapping_sub_u64(4294967296, (0 - (x as i64)) as u64);
+        return 4294967296u64.wrapping_sub((0 - (x as i64)) as u64);
     }
     x as u64
 }
@@ -36,8 +36,8 @@ pub(crate) fn total(samples: &[i32]) -> u64 {
     let mut i = samples.len();
     while i > 0 {
         i -= 1;
-        running = std::num::wrapping_add_u64(running, bits(samples[i]));
-        sum = std::num::wrapping_add_u64(sum, running);
+        running = running.wrapping_add(bits(samples[i]));
+        sum = sum.wrapping_add(running);
     }
     sum
 }

@@ -39,8 +39,8 @@ pub(crate) fn total(s: &[u8]) -> u64 {
     let mut i = s.len();
     while i > 0 {
         i -= 1;
-        running = std::num::wrapping_add_u64(running, wide(s[i]));
-        sum = std::num::wrapping_add_u64(sum, running);
+        running = running.wrapping_add(wide(s[i]));
+        sum = sum.wrapping_add(running);
     }
     sum
 }

@@ -5,31 +5,35 @@
 // rule are and how many words they have, and where its header is and its length.
 #![tactic(auto)]
 
-use libc::STDIN_FILENO;
+use std::io;
+use std::io::{BufWriter, Read, Write};
 
 mod calls;
 mod lent;
 mod shown;
 
 // A case by its number, from 1 on: its name, and what it gives.
-fn run(s: &[u8], i: usize) {
+fn run<W: Write>(out: &mut W, s: &[u8], i: usize) -> io::Result<()> {
     let at = show::word(s, i) as usize;
-    show::text(show::named(s, at, 0));
-    show::end();
-    calls::call(s, at);
+    show::text(out, show::named(s, at, 0))?;
+    show::end(out)?;
+    calls::call(out, s, at)
 }
 
-fn run_all(s: &[u8]) {
+fn run_all<W: Write>(out: &mut W, s: &[u8]) -> io::Result<()> {
     let n = show::word(s, 0) as usize;
     let mut i = 0;
     while i < n {
         i += 1;
-        run(s, i);
+        run(out, s, i)?;
     }
+    Ok(())
 }
 
-fn main() {
-    let mut text = io::large_buffer();
-    let n = io::read_full(STDIN_FILENO, &mut text);
-    run_all(&text[..n]);
+fn main(rt: HostRuntime) -> io::Result<()> {
+    let mut text = Vec::new(rt.alloc());
+    rt.stdin().take(65536).read_to_end(&mut text)?;
+    let mut out = BufWriter::new(rt.alloc(), io::writer(&rt))?;
+    run_all(&mut out, text.as_slice())?;
+    out.flush()
 }

@@ -1,42 +1,50 @@
 // What is written of each call.
 use dequant::Jpeg;
 use matrix::Expanded;
+use std::io;
+use std::io::Write;
 
-fn one(number: u64, kind: usize) {
-    show::decimal(number);
-    show::next(kind as u64);
+fn one<W: Write>(out: &mut W, number: u64, kind: usize) -> io::Result<()> {
+    show::decimal(out, number)?;
+    show::next(out, kind as u64)
 }
 
-fn three(number: u64, kind: usize, channel: usize, last: usize) {
-    one(number, kind);
-    show::next(channel as u64);
-    show::next(last as u64);
+fn three<W: Write>(
+    out: &mut W,
+    number: u64,
+    kind: usize,
+    channel: usize,
+    last: usize,
+) -> io::Result<()> {
+    one(out, number, kind)?;
+    show::next(out, channel as u64)?;
+    show::next(out, last as u64)
 }
 
 // The reply of an expansion: its number, and its values.
-fn reply(r: Expanded) {
+fn reply<W: Write>(out: &mut W, r: Expanded) -> io::Result<()> {
     match r {
-        Expanded::Done => show::decimal(0),
-        Expanded::Lent => show::decimal(1),
-        Expanded::Row { kind } => one(6, kind),
+        Expanded::Done => show::decimal(out, 0),
+        Expanded::Lent => show::decimal(out, 1),
+        Expanded::Row { kind } => one(out, 6, kind),
         Expanded::Band {
             kind,
             channel,
             band,
-        } => three(7, kind, channel, band),
+        } => three(out, 7, kind, channel, band),
         Expanded::Weight {
             kind,
             channel,
             place,
-        } => three(8, kind, channel, place),
-        Expanded::Denom { kind } => one(12, kind),
+        } => three(out, 8, kind, channel, place),
+        Expanded::Denom { kind } => one(out, 12, kind),
     }
 }
 
-pub(crate) fn show_reply(r: Expanded) {
-    show::text(b"reply=");
-    reply(r);
-    show::end();
+pub(crate) fn show_reply<W: Write>(out: &mut W, r: Expanded) -> io::Result<()> {
+    show::text(out, b"reply=")?;
+    reply(out, r)?;
+    show::end(out)
 }
 
 // Whether each weight has these bits.
@@ -52,52 +60,56 @@ fn all_of(part: &[f32], bits: u32) -> bool {
 }
 
 // An arena: unchanged, zero, or its weights.
-fn show_arena(part: &[f32], places: &[u8]) {
+fn show_arena<W: Write>(out: &mut W, part: &[f32], places: &[u8]) -> io::Result<()> {
     if all_of(part, 0xdeadbeef) {
-        show::text(b"unchanged\n");
-        return;
+        return show::text(out, b"unchanged\n");
     }
     if all_of(part, 0) {
-        show::text(b"zero\n");
-        return;
+        return show::text(out, b"zero\n");
     }
-    show_weights::summary(part, places);
+    show_weights::summary(out, part, places)
 }
 
-pub(crate) fn show_arenas(places: &[u8], straight: &[f32], transposed: &[f32]) {
-    show::text(b"straight=");
-    show_arena(straight, places);
-    show::text(b"transposed=");
-    show_arena(transposed, places);
+pub(crate) fn show_arenas<W: Write>(
+    out: &mut W,
+    places: &[u8],
+    straight: &[f32],
+    transposed: &[f32],
+) -> io::Result<()> {
+    show::text(out, b"straight=")?;
+    show_arena(out, straight, places)?;
+    show::text(out, b"transposed=")?;
+    show_arena(out, transposed, places)
 }
 
 // The first weight, the last, and the total.
-fn show_ends(part: &[f32], last: usize) {
-    show::blank();
-    show_weights::weight_at(part, 0);
-    show::blank();
-    show_weights::weight_at(part, last);
-    show::next(show_weights::total(part));
+fn show_ends<W: Write>(out: &mut W, part: &[f32], last: usize) -> io::Result<()> {
+    show::blank(out)?;
+    show_weights::weight_at(out, part, 0)?;
+    show::blank(out)?;
+    show_weights::weight_at(out, part, last)?;
+    show::next(out, show_weights::total(part))
 }
 
 // The length of a part, and its ends where it has some.
-pub(crate) fn show_part(part: &[f32]) {
+pub(crate) fn show_part<W: Write>(out: &mut W, part: &[f32]) -> io::Result<()> {
     let n = part.len();
-    show::text(b"part=");
-    show::decimal(n as u64);
+    show::text(out, b"part=")?;
+    show::decimal(out, n as u64)?;
     if n > 0 {
-        show_ends(part, n - 1);
+        show_ends(out, part, n - 1)?;
     }
-    show::end();
+    show::end(out)
 }
 
 // Values as weights: whole numbers that an f32 has.
-fn show_values(part: &[i32]) {
+fn show_values<W: Write>(out: &mut W, part: &[i32]) -> io::Result<()> {
     let mut i = 0;
     while i < part.len() {
-        show_weights::item(i, std::num::nearest_i32_to_f32(part[i]));
+        show_weights::item(out, i, part[i] as f32)?;
         i += 1;
     }
+    Ok(())
 }
 
 fn jpeg_number(r: Jpeg) -> u64 {
@@ -109,12 +121,18 @@ fn jpeg_number(r: Jpeg) -> u64 {
     }
 }
 
-pub(crate) fn show_jpeg(rows: &[u16], samples: &[i32], channel: usize) {
+pub(crate) fn show_jpeg<W: Write>(
+    out: &mut W,
+    rows: &[u16],
+    samples: &[i32],
+    channel: usize,
+) -> io::Result<()> {
     show::line(
+        out,
         b"reply=",
         jpeg_number(dequant::jpeg_reply(rows, samples, channel)),
-    );
-    show::text(b"part=");
-    show_values(dequant::jpeg_quant_values(rows, samples, channel));
-    show::end();
+    )?;
+    show::text(out, b"part=")?;
+    show_values(out, dequant::jpeg_quant_values(rows, samples, channel))?;
+    show::end(out)
 }

@@ -56,7 +56,7 @@ pub fn fill_samples(samples: &mut [i32], base: u32, step: u32, modulus: u32)
     let mut p = 0;
     let mut rest: u32 = 0;
     while p < samples.len() {
-        samples[p] = signed(std::num::wrapping_add_u32(base, rest));
+        samples[p] = signed(base.wrapping_add(rest));
         rest = stepped(rest, step, modulus);
         p += 1;
     }

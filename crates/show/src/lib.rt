@@ -1,14 +1,15 @@
 // What programs share: the lines that they write, and what those that replay cases take from their input, where a number that isn't there
 // is 0 and a part that isn't there is empty. A function that works something out or fills what it is lent has a contract that fixes it.
-// What is written no contract can say: a function that only writes returns nothing and is lent nothing to change, so there is nothing to
-// fix, and it has none. Each function is proved safe and ending.
+// A function that only writes has none: what it answers is whether the writer that it is lent took the text, and no contract can say what
+// a writer takes. Each function is proved safe and ending.
 #![tactic(auto)]
 
 ghost use Rattle.std.specs.Prelude.{◌≡◌, ◌<◌, ◌≤◌, length};
 ghost use Rattle.show.specs.Refused.{refused_is};
 
-use libc::STDOUT_FILENO;
 use params::Reading;
+use std::io;
+use std::io::Write;
 
 mod cases;
 mod filled;
@@ -20,82 +21,82 @@ pub use filled::{fill_samples, signed};
 pub use parts::{first, first_i32, first_u16, rest};
 pub use words::word;
 
-pub fn text(bytes: &[u8]) {
-    io::write_all(STDOUT_FILENO, bytes);
+pub fn text<W: Write>(out: &mut W, bytes: &[u8]) -> io::Result<()> {
+    out.write_all(bytes)
 }
 
-pub fn decimal(n: u64) {
-    io::print_decimal(STDOUT_FILENO, n);
+pub fn decimal<W: Write>(out: &mut W, n: u64) -> io::Result<()> {
+    write!(out, "{n}")
 }
 
-pub fn blank() {
-    text(b" ");
+pub fn blank<W: Write>(out: &mut W) -> io::Result<()> {
+    text(out, b" ")
 }
 
-pub fn comma() {
-    text(b",");
+pub fn comma<W: Write>(out: &mut W) -> io::Result<()> {
+    text(out, b",")
 }
 
-pub fn end() {
-    text(b"\n");
+pub fn end<W: Write>(out: &mut W) -> io::Result<()> {
+    text(out, b"\n")
 }
 
 // A number behind a blank.
-pub fn next(n: u64) {
-    blank();
-    decimal(n);
+pub fn next<W: Write>(out: &mut W, n: u64) -> io::Result<()> {
+    blank(out)?;
+    decimal(out, n)
 }
 
 // A name, a number and a line end.
-pub fn line(name: &[u8], n: u64) {
-    text(name);
-    decimal(n);
-    end();
+pub fn line<W: Write>(out: &mut W, name: &[u8], n: u64) -> io::Result<()> {
+    text(out, name)?;
+    decimal(out, n)?;
+    end(out)
 }
 
 // The numbers of a reply of two values, as document 01's table has them.
-fn reply(number: u64, kind: usize, bit: u64) {
-    decimal(number);
-    next(kind as u64);
-    next(bit);
+fn reply<W: Write>(out: &mut W, number: u64, kind: usize, bit: u64) -> io::Result<()> {
+    decimal(out, number)?;
+    next(out, kind as u64)?;
+    next(out, bit)
 }
 
-fn short_reply(kind: usize, bit: u64, lacks: u64) {
-    reply(2, kind, bit);
-    next(lacks);
+fn short_reply<W: Write>(out: &mut W, kind: usize, bit: u64, lacks: u64) -> io::Result<()> {
+    reply(out, 2, kind, bit)?;
+    next(out, lacks)
 }
 
 // The reply of a reading: document 01's number, and its values.
-fn reading(r: Reading) {
+fn reading<W: Write>(out: &mut W, r: Reading) -> io::Result<()> {
     match r {
-        Reading::Done { next } => done(next),
-        Reading::Lent => decimal(1),
-        Reading::Short { kind, bit, lacks } => short_reply(kind, bit, lacks),
-        Reading::Mode { kind, bit } => reply(3, kind, bit),
-        Reading::Float { kind, bit } => reply(4, kind, bit),
-        Reading::Raw { kind, next } => reply(5, kind, next),
+        Reading::Done { next } => done(out, next),
+        Reading::Lent => decimal(out, 1),
+        Reading::Short { kind, bit, lacks } => short_reply(out, kind, bit, lacks),
+        Reading::Mode { kind, bit } => reply(out, 3, kind, bit),
+        Reading::Float { kind, bit } => reply(out, 4, kind, bit),
+        Reading::Raw { kind, next } => reply(out, 5, kind, next),
     }
 }
 
-fn done(bit: u64) {
-    decimal(0);
-    next(bit);
+fn done<W: Write>(out: &mut W, bit: u64) -> io::Result<()> {
+    decimal(out, 0)?;
+    next(out, bit)
 }
 
 // The line of a reading's reply.
-pub fn reply_line(r: Reading) {
-    text(b"reply=");
-    reading(r);
-    end();
+pub fn reply_line<W: Write>(out: &mut W, r: Reading) -> io::Result<()> {
+    text(out, b"reply=")?;
+    reading(out, r)?;
+    end(out)
 }
 
 // The line of a refusal's number.
-pub fn refusal(number: u64) {
-    line(b"refused=", number);
+pub fn refusal<W: Write>(out: &mut W, number: u64) -> io::Result<()> {
+    line(out, b"refused=", number)
 }
 
-pub fn kind(kind: usize) {
-    line(b"kind=", kind as u64);
+pub fn kind<W: Write>(out: &mut W, kind: usize) -> io::Result<()> {
+    line(out, b"kind=", kind as u64)
 }
 
 // Whether a reading is refused. A raw entry is refused too: its samples aren't here.
@@ -117,26 +118,26 @@ pub fn is_refused(r: Reading) -> bool
 }
 
 // A refused reading, a line for each number, and nothing of one that is done.
-pub fn refused(r: Reading) {
+pub fn refused<W: Write>(out: &mut W, r: Reading) -> io::Result<()> {
     match r {
-        Reading::Done { next: _ } => {}
-        Reading::Lent => refusal(1),
-        Reading::Short { kind, bit, lacks } => refused_short(kind, bit, lacks),
-        Reading::Mode { kind, bit } => refused_at(3, kind, bit),
-        Reading::Float { kind, bit } => refused_at(4, kind, bit),
-        Reading::Raw { kind, next } => refused_at(5, kind, next),
+        Reading::Done { next: _ } => Ok(()),
+        Reading::Lent => refusal(out, 1),
+        Reading::Short { kind, bit, lacks } => refused_short(out, kind, bit, lacks),
+        Reading::Mode { kind, bit } => refused_at(out, 3, kind, bit),
+        Reading::Float { kind, bit } => refused_at(out, 4, kind, bit),
+        Reading::Raw { kind, next } => refused_at(out, 5, kind, next),
     }
 }
 
-fn refused_at(number: u64, no: usize, bit: u64) {
-    refusal(number);
-    kind(no);
-    line(b"bit=", bit);
+fn refused_at<W: Write>(out: &mut W, number: u64, no: usize, bit: u64) -> io::Result<()> {
+    refusal(out, number)?;
+    kind(out, no)?;
+    line(out, b"bit=", bit)
 }
 
-fn refused_short(no: usize, bit: u64, lacks: u64) {
-    refused_at(2, no, bit);
-    line(b"lacks=", lacks);
+fn refused_short<W: Write>(out: &mut W, no: usize, bit: u64, lacks: u64) -> io::Result<()> {
+    refused_at(out, 2, no, bit)?;
+    line(out, b"lacks=", lacks)
 }
 
 fn wide(x: u16) -> u64 {
@@ -158,28 +159,29 @@ fn used(row: &[u16]) -> usize
 }
 
 // What stands before a row's numbers.
-fn row_name(kind: usize) {
-    text(b"row.");
-    decimal(kind as u64);
-    text(b"=");
+fn row_name<W: Write>(out: &mut W, kind: usize) -> io::Result<()> {
+    text(out, b"row.")?;
+    decimal(out, kind as u64)?;
+    text(out, b"=")
 }
 
 // A number of a row, a comma before each but the first.
-fn item(i: usize, x: u16) {
+fn item<W: Write>(out: &mut W, i: usize, x: u16) -> io::Result<()> {
     if i > 0 {
-        comma();
+        comma(out)?;
     }
-    io::print_hex(STDOUT_FILENO, wide(x), 1);
+    let number = wide(x);
+    write!(out, "{number:x}")
 }
 
 // The numbers of a row in hexadecimal, commas between them, without the zeros at its end.
-pub fn row(kind: usize, numbers: &[u16]) {
-    row_name(kind);
+pub fn row<W: Write>(out: &mut W, kind: usize, numbers: &[u16]) -> io::Result<()> {
+    row_name(out, kind)?;
     let n = used(numbers);
     let mut i = 0;
     while i < n {
-        item(i, numbers[i]);
+        item(out, i, numbers[i])?;
         i += 1;
     }
-    end();
+    end(out)
 }

@@ -2,28 +2,28 @@
 #![tactic(auto)]
 
 use record::Written;
+use std::io;
+use std::io::Write;
 
 // The record of rows that were read without raw kinds. It has at most 7,079 bytes, so writing it is never refused here: `listed`, crate
 // promises.
-fn show_rows(rows: &[u16]) {
+fn show_rows<W: Write>(out: &mut W, rows: &[u16]) -> io::Result<()> {
     let mut text = [0u8; 8192];
     match record::write_record(rows, &[], &mut text) {
-        Written::Done { length } => {
-            show::text(show::first(&text, length));
-        }
-        Written::Lent => {}
-        Written::Row { kind: _ } => {}
-        Written::Room { length: _ } => {}
+        Written::Done { length } => show::text(out, show::first(&text, length)),
+        Written::Lent => Ok(()),
+        Written::Row { kind: _ } => Ok(()),
+        Written::Room { length: _ } => Ok(()),
     }
 }
 
 // The record of a header without raw kinds, or the lines of what refuses it.
-pub fn quantlist(header: &[u8]) {
+pub fn quantlist<W: Write>(out: &mut W, header: &[u8]) -> io::Result<()> {
     let mut rows = [0u16; 2176];
     let r = params::read_header(header, 0, 0, &mut rows);
     if show::is_refused(r) {
-        show::refused(r);
+        show::refused(out, r)
     } else {
-        show_rows(&rows);
+        show_rows(out, &rows)
     }
 }

@@ -2,99 +2,121 @@
 use crate::expand_header;
 use dequant::Order;
 use show_weights::{item, total, weight_at};
+use std::io;
+use std::io::Write;
 use transform::Kind;
 
 // The weights of a part, commas between them.
-fn weights(part: &[f32]) {
+fn weights<W: Write>(out: &mut W, part: &[f32]) -> io::Result<()> {
     let mut i = 0;
     while i < part.len() {
-        item(i, part[i]);
+        item(out, i, part[i])?;
         i += 1;
     }
+    Ok(())
 }
 
 // The first row of a part.
-fn key(part: &[f32], width: usize) {
+fn key<W: Write>(out: &mut W, part: &[f32], width: usize) -> io::Result<()> {
     if width <= part.len() {
-        weights(&part[..width]);
+        weights(out, &part[..width])?;
     }
-    show::end();
+    show::end(out)
 }
 
 // The weight at a place, after a sign.
-fn corner(part: &[f32], sign: &[u8], i: usize) {
-    show::text(sign);
-    weight_at(part, i);
+fn corner<W: Write>(out: &mut W, part: &[f32], sign: &[u8], i: usize) -> io::Result<()> {
+    show::text(out, sign)?;
+    weight_at(out, part, i)
 }
 
 // The total and the corners of a part whose rows are `width` long.
-fn summary(part: &[f32], width: usize) {
-    show::decimal(total(part));
+fn summary<W: Write>(out: &mut W, part: &[f32], width: usize) -> io::Result<()> {
+    show::decimal(out, total(part))?;
     let n = part.len();
     if 0 < width {
         if width <= n {
-            corner(part, b" ", 0);
-            corner(part, b",", width - 1);
-            corner(part, b",", n - width);
-            corner(part, b",", n - 1);
+            corner(out, part, b" ", 0)?;
+            corner(out, part, b",", width - 1)?;
+            corner(out, part, b",", n - width)?;
+            corner(out, part, b",", n - 1)?;
         }
     }
-    show::end();
+    show::end(out)
 }
 
-fn show_part(part: &[f32], width: usize, keys: bool) {
+fn show_part<W: Write>(out: &mut W, part: &[f32], width: usize, keys: bool) -> io::Result<()> {
     if keys {
-        key(part, width);
-        return;
+        return key(out, part, width);
     }
-    summary(part, width);
+    summary(out, part, width)
 }
 
-fn show_channel<'a>(
+fn show_channel<'a, W: Write>(
+    out: &mut W,
     straight: &'a [f32],
     transposed: &'a [f32],
     kind: usize,
     channel: usize,
     keys: bool,
-) {
+) -> io::Result<()> {
     let k = Kind { no: kind };
     let part = dequant::lookup(straight, transposed, kind, channel, Order::Straight);
-    show_part(part, k.width(), keys);
+    show_part(out, part, k.width(), keys)
 }
 
-fn show_kind<'a>(straight: &'a [f32], transposed: &'a [f32], kind: usize, keys: bool) {
-    show_channel(straight, transposed, kind, 0, keys);
-    show_channel(straight, transposed, kind, 1, keys);
-    show_channel(straight, transposed, kind, 2, keys);
+fn show_kind<'a, W: Write>(
+    out: &mut W,
+    straight: &'a [f32],
+    transposed: &'a [f32],
+    kind: usize,
+    keys: bool,
+) -> io::Result<()> {
+    show_channel(out, straight, transposed, kind, 0, keys)?;
+    show_channel(out, straight, transposed, kind, 1, keys)?;
+    show_channel(out, straight, transposed, kind, 2, keys)
 }
 
-fn show_kinds<'a>(straight: &'a [f32], transposed: &'a [f32], keys: bool) {
+fn show_kinds<'a, W: Write>(
+    out: &mut W,
+    straight: &'a [f32],
+    transposed: &'a [f32],
+    keys: bool,
+) -> io::Result<()> {
     let mut kind = 0;
     while kind < Kind::COUNT {
-        show_kind(straight, transposed, kind, keys);
+        show_kind(out, straight, transposed, kind, keys)?;
         kind += 1;
     }
+    Ok(())
 }
 
-fn list(header: &[u8], straight: &mut [f32], transposed: &mut [f32], keys: bool) {
-    if expand_header(header, straight, transposed) {
-        show_kinds(straight, transposed, keys);
+fn list<W: Write>(
+    out: &mut W,
+    header: &[u8],
+    straight: &mut [f32],
+    transposed: &mut [f32],
+    keys: bool,
+) -> io::Result<()> {
+    if expand_header(out, header, straight, transposed)? {
+        show_kinds(out, straight, transposed, keys)?;
     }
+    Ok(())
 }
 
 // With two arenas, each lent once: a need after a second loan would count them.
-fn with_arenas(header: &[u8], keys: bool) {
+fn with_arenas<W: Write>(out: &mut W, header: &[u8], keys: bool) -> io::Result<()> {
     let mut straight = [0.0f32; 394752];
     let mut transposed = [0.0f32; 394752];
-    list(header, &mut straight, &mut transposed, keys);
+    list(out, header, &mut straight, &mut transposed, keys)
 }
 
 // The first row of each: eight hexadecimal digits for a weight, commas between them.
-pub fn keys(header: &[u8]) {
-    with_arenas(header, true);
+pub fn keys<W: Write>(out: &mut W, header: &[u8]) -> io::Result<()> {
+    with_arenas(out, header, true)
 }
 
 // Of each the 64-bit total of bits x (place + 1), and the bits of the four corner weights.
-pub fn summaries(header: &[u8]) {
-    with_arenas(header, false);
+pub fn summaries<W: Write>(out: &mut W, header: &[u8]) -> io::Result<()> {
+    with_arenas(out, header, false)
 }

@@ -4,7 +4,8 @@
 ghost use Rattle.std.specs.Prelude.{◌≡◌};
 ghost use Rattle.total.specs.Total.{total_from};
 
-use libc::STDOUT_FILENO;
+use std::io;
+use std::io::Write;
 
 // The total of weights whose first place is 0, of any number of them: from the last place on, each weight's bits are in the
 // running sum once for each place up to its own.
@@ -17,52 +18,55 @@ pub fn total(part: &[f32]) -> u64
     while i > 0 {
         i -= 1;
         let bits = total::bits(part[i]) as u64;
-        running = std::num::wrapping_add_u64(running, bits);
-        sum = std::num::wrapping_add_u64(sum, running);
+        running = running.wrapping_add(bits);
+        sum = sum.wrapping_add(running);
     }
     sum
 }
 
 // A weight's bits, as eight hexadecimal digits.
-fn weight(x: f32) {
-    io::print_hex(STDOUT_FILENO, total::bits(x) as u64, 8);
+fn weight<W: Write>(out: &mut W, x: f32) -> io::Result<()> {
+    let bits = total::bits(x) as u64;
+    write!(out, "{bits:08x}")
 }
 
 // A weight, a comma before each but the first.
-pub fn item(i: usize, x: f32) {
+pub fn item<W: Write>(out: &mut W, i: usize, x: f32) -> io::Result<()> {
     if i > 0 {
-        show::comma();
+        show::comma(out)?;
     }
-    weight(x);
+    weight(out, x)
 }
 
 // The weight at a place, and nothing where there is none.
-pub fn weight_at(part: &[f32], i: usize) {
+pub fn weight_at<W: Write>(out: &mut W, part: &[f32], i: usize) -> io::Result<()> {
     if i < part.len() {
-        weight(part[i]);
+        weight(out, part[i])?;
     }
+    Ok(())
 }
 
-fn place(part: &[f32], i: usize) {
-    show::comma();
-    show::decimal(i as u64);
-    show::text(b":");
-    weight_at(part, i);
+fn place<W: Write>(out: &mut W, part: &[f32], i: usize) -> io::Result<()> {
+    show::comma(out)?;
+    show::decimal(out, i as u64)?;
+    show::text(out, b":")?;
+    weight_at(out, part, i)
 }
 
 // The weights at the places of a list of words, each behind a comma.
-fn places(part: &[f32], list: &[u8]) {
+fn places<W: Write>(out: &mut W, part: &[f32], list: &[u8]) -> io::Result<()> {
     let n = list.len() / 4;
     let mut i = 0;
     while i < n {
-        place(part, show::word(list, i) as usize);
+        place(out, part, show::word(list, i) as usize)?;
         i += 1;
     }
+    Ok(())
 }
 
 // The total, the weights at the places of a list, and a line end.
-pub fn summary(part: &[f32], list: &[u8]) {
-    show::decimal(total(part));
-    places(part, list);
-    show::end();
+pub fn summary<W: Write>(out: &mut W, part: &[f32], list: &[u8]) -> io::Result<()> {
+    show::decimal(out, total(part))?;
+    places(out, part, list)?;
+    show::end(out)
 }
