@@ -20,7 +20,7 @@ import tempfile
 
 ROOT = pathlib.Path(__file__).resolve().parent.parent
 PLAIN = re.compile(
-    r"mov(zx|sx|sxd|d|q|dqa|dqu|aps|ups|abs)?|cmov\w+|lea|push|pop|nop|ret|pshufd|punpck\w+|"
+    r"mov(zx|sx|sxd|d|q|dqa|dqu|aps|ups|abs)?|cmov\w+|lea|push|pop|nop|ret|pshufd|punpck\w+|pinsr[dq]|pextr[dq]|pmovzx\w+|extractps|insertps|p?blend\w+|"
     r"sh[lr]d?|sar|psll[dq]|psrl[dq]|psrad|"
     r"cmp|test|set\w+|j\w+|pcmp(gt|eq)d|"
     r"not|and|or|xor|pand|pandn|por|pxor|andps|andnps|orps|xorps|"
