@@ -27,9 +27,9 @@ PLAIN = re.compile(
     r"add|sub|inc|dec|neg|sbb|adc|padd[dq]|psub[dq]"
 )
 # Where roots stand in the library: the last instruction before them that is of another kind, and the first behind them. The chains: the
-# leading zeros of a subnormal ratio, which is divided before; the copy of the finished table. The distances: the sum of the two
+# copy of the numbers whose roots they are; the copy of the finished table. The distances: the sum of the two
 # squares; the product that makes a position of a distance.
-PLACES = {"bands::three::chains": ("bsr", "call"), "matrix::lists::fill_bands": ("addps", "mulps")}
+PLACES = {"bands::three::chains": ("call", "call"), "matrix::lists::fill_bands": ("addps", "mulps")}
 ALONE = """// The whole root, alone.
 #![tactic(auto)]
 
@@ -64,7 +64,9 @@ def functions(library):
             words = step.group(1).split(None, 1)
             while words[0] in PREFIXES and len(words) > 1:
                 words = words[1].split(None, 1)
-            here.append((words[0], words[1] if len(words) > 1 else ""))
+            # (the two-byte form of a nop)
+            step = ("nop", "") if words == ["xchg", "ax,ax"] else (words[0], words[1] if len(words) > 1 else "")
+            here.append(step)
     return found
 
 
