@@ -1,13 +1,10 @@
 -- `raw::fill_raw` meets its contract. The invariant: the first i weights stand from `start` on. Assumes nothing.
-use Rattle.std.proofs.Common.{◌≡◌, length, get_or, ℤ, pos, sym, ap, ◌∙◌, arith, length-set, w32}
+use Rattle.std.proofs.Common.{◌≡◌, length, get_or, ℤ, pos, sym, ap, ◌∙◌, arith, rules, length-set, w32}
 use mir.ValLaws.{to_z-of_z}
 use Rattle.matrix.specs.Raw.{weight_of}
 use Rattle.bands.proofs.TableLaws.{map_tab}
 use Rattle.matrix.proofs.Front.{front_on, front_all}
 use Rattle.matrix.proofs.raw.fill_raw.Goals as goal
-
-pub weight-requires : goal.weight-requires
-weight-requires c = tt
 
 pub loop-i-preserved : goal.loop-i-preserved
 loop-i-preserved c =
@@ -16,7 +13,7 @@ loop-i-preserved c =
       omega arith,
       length-set l.straight l.i c.weight.result ∙ l.invariant.1,
       front_on _ l.straight l.i _ c.weight.result l.invariant.2
-          (c.weight.ensures ∙ ap (λ (z : ℤ). weight_of a.denominator z) (to_z-of_z w32 (get_or a.samples.now l.i (pos 0)) (record { sfits = c.weight-arg-1.given }))),
+          (c.weight.ensures ∙ ap (λ (z : ℤ). weight_of a.denominator z) (to_z-of_z w32 (get_or a.samples.now l.i (pos 0)) (record { sfits = search rules }))),
     )
 
 pub returns : goal.returns
