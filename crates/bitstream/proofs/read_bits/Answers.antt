@@ -24,7 +24,7 @@ returns-then-n-there c =
     let end = c.bit_count-end.ensures in
     -- the first bit that is gone, from the field's first on
     let gone : c.if-at-end.gone ≡ a.at + (bit_count a.bytes.now - a.at) =
-        elim c.if-at-end.branch [ then-at-end v ↦ omega (arith, v.gone-is, v.if-at-end.true, end) | else-at-end v ↦ omega (arith, v.gone-is, v.if-at-end.false, end) ] in
+    elim c.if-at-end.branch [ then-at-end v ↦ omega (arith, v.gone-is, v.if-at-end.true, end) | else-at-end v ↦ omega (arith, v.gone-is, v.if-at-end.false, end) ] in
     let e = lacks a.at (bit_count a.bytes.now) c.if-at-end.gone w.result (width_of a.field) gone w.ensures.0 in
     ap Short e ∙ sym (read_past a.bytes.now a.at (width_of a.field) (omega (arith, sym e, c.if-n-there.true)))
 
@@ -34,7 +34,7 @@ gather-requires c =
     let w = c.width-n in
     let end = c.bit_count-end.ensures in
     let gone : c.if-at-end.gone ≡ a.at + (bit_count a.bytes.now - a.at) =
-        elim c.if-at-end.branch [ then-at-end v ↦ omega (arith, v.gone-is, v.if-at-end.true, end) | else-at-end v ↦ omega (arith, v.gone-is, v.if-at-end.false, end) ] in
+    elim c.if-at-end.branch [ then-at-end v ↦ omega (arith, v.gone-is, v.if-at-end.true, end) | else-at-end v ↦ omega (arith, v.gone-is, v.if-at-end.false, end) ] in
     let ends = within a.at (bit_count a.bytes.now) c.if-at-end.gone w.result (width_of a.field) gone w.ensures.0 (width_some a.field) c.if-n-there.false in
     search (rules, ends)
 
@@ -44,6 +44,6 @@ returns c =
     let w = c.width-n in
     let end = c.bit_count-end.ensures in
     let gone : c.if-at-end.gone ≡ a.at + (bit_count a.bytes.now - a.at) =
-        elim c.if-at-end.branch [ then-at-end v ↦ omega (arith, v.gone-is, v.if-at-end.true, end) | else-at-end v ↦ omega (arith, v.gone-is, v.if-at-end.false, end) ] in
+    elim c.if-at-end.branch [ then-at-end v ↦ omega (arith, v.gone-is, v.if-at-end.true, end) | else-at-end v ↦ omega (arith, v.gone-is, v.if-at-end.false, end) ] in
     let ends = within a.at (bit_count a.bytes.now) c.if-at-end.gone w.result (width_of a.field) gone w.ensures.0 (width_some a.field) c.if-n-there.false in
     rw (c.gather.ensures, w.ensures.0) (sym (read_in a.bytes.now a.at (width_of a.field) ends))
