@@ -1,17 +1,22 @@
 -- LENT, test by test, and what a call that is lent right knows. Assumes nothing.
-use mathlib.Core.Path.{◌≡◌}
+use mathlib.Core.Path.{◌≡◌, sym, ◌∙◌}
 use mathlib.Core.Bool.{Bool, true, false, ◌&&◌}
+use mathlib.Core.List.{List, map}
 use Prim.Native.Nat.{ℕ, ◌≤◌, ◌<◌}
 use native.Mathlib.Omega.{arith}
 use borrow.Author.Tests.{lt-ltb, le-ltb, le-leb, lt-leb, ltb-true, leb-true}
 use lib.Dec.{ltb, leb}
-use lib.ListN.{length, drop}
+use lib.ListN.{length, drop, length-map}
 use lib.Seq.{length-take-le}
 use Rattle.short_arena.specs.declared.held.State.{State}
 use Rattle.short_arena.specs.Held.{held_of, single, places_in}
 use Rattle.transform.specs.Zeros.{all_zero}
 use Rattle.short_arena.specs.Short.{lent_right}
 use Rattle.transform.proofs.Chain.{here, next, left, right}
+
+-- a struct's array has its length
+pub seventeen : (l : List ℕ) → length (map (λ v. v) l) ≡ 17 → length l ≡ 17
+seventeen l e = sym (length-map l (λ v. v)) ∙ e
 
 -- as many are held as are counted
 pub held_count : (s : State) → length s.kinds ≡ 17 → s.count ≤ 17 → length (held_of s) ≡ s.count

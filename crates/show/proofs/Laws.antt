@@ -1,5 +1,5 @@
 -- What parts of slices and the functions that fill go by. Assumes nothing.
-use Rattle.std.proofs.Common.{◌≡◌, ℕ, zero, suc, ◌+◌, ◌-◌, ◌*◌, ◌%◌, ◌<◌, ◌≤◌, List, [], length, take, set, sym, refl, ap, ◌∙◌, add-mul, one-mul, zero-mul, add-one, arith, le-leb}
+use Rattle.std.proofs.Common.{◌≡◌, ℕ, zero, suc, ◌+◌, ◌-◌, ◌*◌, ◌%◌, ◌<◌, ◌≤◌, List, [], length, take, drop, set, sym, refl, ap, ◌∙◌, add-mul, one-mul, zero-mul, add-one, arith, le-leb}
 use native.Mathlib.Nat.{sub-zero, zero-mod, mod-add-mod}
 use borrow.Author.Tests.{lt-leb}
 use Rattle.show.specs.Input.{first_of}
@@ -40,3 +40,7 @@ modulo_more p step (suc m) = mod-add-mod (p * step) (suc m) step ∙ ap (λ (x :
 pub stored_more : {A : Type 0} (at : ℕ → ℕ) (what : ℕ → A) (j : ℕ) (l m : List A) (i : ℕ) (a : A) → m ≡ stored at what j l → i ≡ at j → a ≡ what j → set m i a ≡ stored at what (j + 1) l
 unfolding stored
 stored_more at what j l m i a e f g = rw (add-one, e, f, g)
+
+-- a part by where it begins and its length
+pub part_is : (s : List ℕ) {t r : List ℕ} {a b n m : ℕ} → r ≡ first_of n t → t ≡ drop a s → a ≡ b → n ≡ m → r ≡ first_of m (drop b s)
+part_is s e f g h = rw (e, f, g, h)
