@@ -5,7 +5,7 @@ An edit holds one wrong program for each of several functions, told by lines `# 
 the whole was refused; here each function has to be refused by itself: at a fact of its own proof, not because one that it calls was
 refused, and not because its shape changed. And each public function that has a contract has to be named by two edits.
 
-usage: scripts/check_refused.py [CRATE..]      (no name: every crate of crates.txt)
+usage: scripts/check_refused.py [--say] [CRATE..]      (no name: every crate of crates.txt; --say: the goals at which each is refused)
 """
 import pathlib
 import re
@@ -45,6 +45,19 @@ def fault(log, path):
     if any(words in line for line in own for words in SHAPE):
         return "its shape changed"
     return None if own else f"no error of its own ({verdict[:80]})"
+
+
+def goals(log, path):
+    """The goals of the function at which the log refuses it: those that the search leaves open, and those whose answers fail."""
+    crate, *inner = path.split("::")
+    found = []
+    for line in log:
+        if re.match(r"fn " + re.escape(path) + ": ", line) and "`search` did not prove" in line:
+            found += re.findall(r"`([^`]+)`", line.split("did not prove", 1)[1].split(";")[0])
+        m = re.match(r"\./proofs/" + "/".join(inner[:-1] + [r"\+?" + inner[-1]]) + r"/(?:Answers|Invariants|Proof)\.antt:\d+:\d+: error: `([^`]+)`", line)
+        if m and not NOT_OWN.search(line):
+            found.append(m[1])
+    return list(dict.fromkeys(found))
 
 
 def public():
@@ -93,7 +106,7 @@ def copied(to):
 
 
 def main():
-    bad, seen, count, asked = [], {}, 0, set(sys.argv[1:])
+    bad, seen, count, asked = [], {}, 0, set(sys.argv[1:]) - {"--say"}
     listed = re.findall(r"^(\w+)[^:#\n]*:", (ROOT / "crates.txt").read_text(), re.M)
     edits = [(crate, edit) for crate in listed if not asked or crate in asked for edit in sorted((ROOT / "crates" / crate / "must-fail").glob("*.edit"))]
     with tempfile.TemporaryDirectory() as top:
@@ -121,6 +134,8 @@ def main():
             seen[path] = seen.get(path, 0) + 1
             if why := fault(lines, path):
                 bad.append(f"{crate}/{edit.stem}: {path}: {why}")
+            elif "--say" in sys.argv:
+                print(f"{crate}/{edit.stem}: {path}: {', '.join(goals(lines, path))}")
     if not asked:
         bad += [f"{path}: {seen.get(path, 0)} wrong programs, not two" for path in public() if seen.get(path, 0) < 2]
     for line in bad:

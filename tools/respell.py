@@ -135,8 +135,8 @@ def main():
             lines = []
             for line in t.split("\n"):
                 code, rest = split_comment(line, comment)
-                if comment == "--" or not re.search(r'"', code):
-                    code = TOKEN.sub(one, code)
+                # (a text in quotes stays as it is)
+                code = "".join(part if n % 2 else TOKEN.sub(one, part) for n, part in enumerate(re.split(r'("[^"]*")', code)))
                 rest = re.sub(r"`[^`]*`", lambda q: TOKEN.sub(one, q.group(0)), rest)
                 rest = re.sub(r"\b[a-z]+[a-z0-9]*[A-Z]\w*\b", one, rest)
                 lines.append(code + rest)
