@@ -23,6 +23,8 @@ LEMMAS = {
     + [f"crates/promises/proofs/{m}.antt" for m in ("Accepts", "FirstWeight", "DefaultsAccepted", "Denominators", "RawOnes")],
     "entry_row": ["crates/record/proofs/PartPlaces.antt", "crates/record/proofs/SetStores.antt"],
 }
+# Names that a file gives to what it imports.
+ALIASES = {"expandedReply": "expanded_reply", "readReply": "read_reply"}
 HEAD = r"(?:(?:pub|abbrev|unfoldable|opaque)\s+)*"
 DECLARED = re.compile(r"^\s*" + HEAD + r"(" + NAME + r")((?:\s+" + NAME + r")*)\s*:(?!:)")
 RULESET = re.compile(r"^\s*(?:pub )?ruleset\s+(" + NAME + r")\s*=")
@@ -126,6 +128,7 @@ def main():
         for p, t in texts.items():
             turn = {n: named(n, definitions) for n in seen[p] if n not in clash}
             # a definition by a module's name, and in a comment: no name with a capital inside stands for two things
+            turn.update(ALIASES)
             turn.update({n: named(n, definitions) for n in everyone if "-" not in n and n not in clash})
             comment = "--" if p.endswith(".antt") else "//"
 
