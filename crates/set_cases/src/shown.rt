@@ -106,7 +106,7 @@ pub(crate) fn show_part<W: Write>(out: &mut W, part: &[f32]) -> io::Result<()> {
 fn show_values<W: Write>(out: &mut W, part: &[i32]) -> io::Result<()> {
     let mut i = 0;
     while i < part.len() {
-        show_weights::item(out, i, part[i] as f32)?;
+        show_weights::item(out, i, std::num::nearest_i32_to_f32(part[i]))?;
         i += 1;
     }
     Ok(())
