@@ -141,7 +141,7 @@ fn filled_call<W: Write>(out: &mut W, s: &[u8], at: usize, samples: &mut [i32]) 
     lent_call(out, s, at, show::first_i32(samples, field(s, at, 3)))
 }
 
-// The samples are lent once: a need after a second loan would count them.
+// The samples are lent once: a goal after a second loan would count them.
 fn with_samples<W: Write>(out: &mut W, s: &[u8], at: usize) -> io::Result<()> {
     let mut samples = [0i32; 394752];
     filled_call(out, s, at, &mut samples)

@@ -104,7 +104,7 @@ fn list<W: Write>(
     Ok(())
 }
 
-// With two arenas, each lent once: a need after a second loan would count them.
+// With two arenas, each lent once: a goal after a second loan would count them.
 fn with_arenas<W: Write>(out: &mut W, header: &[u8], keys: bool) -> io::Result<()> {
     let mut straight = [0.0f32; 394752];
     let mut transposed = [0.0f32; 394752];
