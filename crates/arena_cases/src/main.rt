@@ -7,7 +7,7 @@
 #![tactic(auto)]
 
 use std::io;
-use std::io::{BufWriter, Read, Write};
+use std::io::Write;
 
 mod calls;
 mod lent;
@@ -33,9 +33,10 @@ fn run_all<W: Write>(out: &mut W, s: &[u8]) -> io::Result<()> {
 }
 
 fn main(rt: HostRuntime) -> io::Result<()> {
-    let mut text = Vec::new(rt.alloc());
-    rt.stdin().take(65536).read_to_end(&mut text)?;
-    let mut out = BufWriter::new(rt.alloc(), io::writer(&rt))?;
-    run_all(&mut out, text.as_slice())?;
+    let mut text = [0u8; 65536];
+    let mut input = rt.stdin();
+    let n = show::read_full(&mut input, &mut text)?;
+    let mut out = io::writer(&rt);
+    run_all(&mut out, &text[..n])?;
     out.flush()
 }

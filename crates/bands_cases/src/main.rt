@@ -4,7 +4,7 @@
 
 use bands::Banded;
 use std::io;
-use std::io::{BufWriter, Write};
+use std::io::Write;
 
 mod power;
 
@@ -127,7 +127,7 @@ fn corners<W: Write>(to: &mut W) -> io::Result<()> {
 }
 
 fn main(rt: HostRuntime) -> io::Result<()> {
-    let mut to = BufWriter::new(rt.alloc(), io::writer(&rt))?;
+    let mut to = io::writer(&rt);
     defaults(&mut to)?;
     lists(&mut to)?;
     corners(&mut to)?;

@@ -2,12 +2,13 @@
 #![tactic(auto)]
 
 use std::io;
-use std::io::{BufWriter, Read, Write};
+use std::io::Write;
 
 fn main(rt: HostRuntime) -> io::Result<()> {
-    let mut header = Vec::new(rt.alloc());
-    rt.stdin().take(2550).read_to_end(&mut header)?;
-    let mut out = BufWriter::new(rt.alloc(), io::writer(&rt))?;
-    show_record::quantlist(&mut out, header.as_slice())?;
+    let mut header = [0u8; 2550];
+    let mut input = rt.stdin();
+    let n = show::read_full(&mut input, &mut header)?;
+    let mut out = io::writer(&rt);
+    show_record::quantlist(&mut out, &header[..n])?;
     out.flush()
 }

@@ -3,7 +3,7 @@
 
 use params::Reading;
 use std::io;
-use std::io::{BufWriter, Read, Write};
+use std::io::Write;
 
 // Whether rows were written to the end of the header or to a raw kind.
 fn has_rows(r: Reading) -> bool {
@@ -22,11 +22,12 @@ fn has_rows(r: Reading) -> bool {
 }
 
 fn main(rt: HostRuntime) -> io::Result<()> {
-    let mut header = Vec::new(rt.alloc());
-    rt.stdin().take(2550).read_to_end(&mut header)?;
-    let mut out = BufWriter::new(rt.alloc(), io::writer(&rt))?;
+    let mut header = [0u8; 2550];
+    let mut input = rt.stdin();
+    let n = show::read_full(&mut input, &mut header)?;
+    let mut out = io::writer(&rt);
     let mut rows = [0u16; 2176];
-    let r = params::read_header(header.as_slice(), 0, 0, &mut rows);
+    let r = params::read_header(&header[..n], 0, 0, &mut rows);
     show::reply_line(&mut out, r)?;
     if has_rows(r) {
         let mut kind = 0;

@@ -7,7 +7,7 @@
 use record::{Taken, Written};
 use show::field;
 use std::io;
-use std::io::{BufWriter, Read, Write};
+use std::io::Write;
 
 mod rows;
 mod samples;
@@ -265,9 +265,10 @@ fn with_buffer<W: Write>(out: &mut W, s: &[u8]) -> io::Result<()> {
 }
 
 fn main(rt: HostRuntime) -> io::Result<()> {
-    let mut text = Vec::new(rt.alloc());
-    rt.stdin().take(65536).read_to_end(&mut text)?;
-    let mut out = BufWriter::new(rt.alloc(), io::writer(&rt))?;
-    with_buffer(&mut out, text.as_slice())?;
+    let mut text = [0u8; 65536];
+    let mut input = rt.stdin();
+    let n = show::read_full(&mut input, &mut text)?;
+    let mut out = io::writer(&rt);
+    with_buffer(&mut out, &text[..n])?;
     out.flush()
 }

@@ -14,11 +14,13 @@ use std::io::Write;
 mod cases;
 mod filled;
 mod parts;
+mod stream;
 mod words;
 
 pub use cases::{field, fill_by_rule, listed, named, rows_listed};
 pub use filled::{fill_samples, signed};
 pub use parts::{first, first_i32, first_u16, rest};
+pub use stream::read_full;
 pub use words::word;
 
 pub fn text<W: Write>(out: &mut W, bytes: &[u8]) -> io::Result<()> {
