@@ -23,7 +23,7 @@ FN = re.compile(r"# fn (\S+): (.+)")
 # How many copies of the repository are tried side by side: a check takes up to two processors.
 COPIES = 2
 NOT_OWN = re.compile(r"error: \d+ declarations? that depends? on|was not admitted")
-SHAPE = ("can be named from here", "has no field", "is not in scope")
+SHAPE = ("can be named from here", "has no field", "has no `", "is not in scope")
 
 
 def told(edit):
@@ -38,7 +38,7 @@ def fault(log, path):
     verdict = heads[-1].split(f"{path}: ", 1)[1] if heads else "not in the log"
     if verdict.startswith("proved"):
         return "it is proved"
-    if "`search` did not prove" in verdict:
+    if verdict.startswith("no proof") and "`search` did not prove" in verdict:
         return None
     place = re.compile("/proofs/" + "/".join(inner[:-1] + [r"\+?" + inner[-1]]) + r"(\+\w+)*/(Answers|Invariants|Proof)\.antt:\d+:\d+: error: ")
     own = [line for line in log if place.search(line) and not NOT_OWN.search(line)]

@@ -29,7 +29,7 @@ PLAIN = re.compile(
 # Where roots stand in the library: the last instruction before them that is of another kind, and the first behind them. The chains: the
 # copy of the numbers whose roots they are; the copy of the finished table. The distances: the sum of the two
 # squares; the product that makes a position of a distance.
-PLACES = {"bands::three::chains": ("call", "call"), "matrix::lists::fill_bands": ("addps", "mulps")}
+PLACES = {"bands::three::chains": ("call memcpy", "call memcpy"), "matrix::lists::fill_bands": ("addps", "mulps")}
 ALONE = """// The whole root, alone.
 #![tactic(auto)]
 
@@ -55,10 +55,14 @@ def functions(library):
     """The instructions of each function, as mnemonic and operands."""
     name = disassembler()
     syntax = ["--x86-asm-syntax=intel"] if "llvm" in name else ["-M", "intel"]
-    text = subprocess.run([name, "-d", "--no-show-raw-insn", *syntax, str(library)], capture_output=True, text=True, check=True).stdout
+    text = subprocess.run([name, "-dr", "--no-show-raw-insn", *syntax, str(library)], capture_output=True, text=True, check=True).stdout
     found, here = {}, None
     for line in text.splitlines():
-        if head := re.fullmatch(r"[0-9a-f]+ <(.+)>:", line):
+        # (what the linker fills in stands behind its instruction: of a call, which function it is of)
+        if moved := re.match(r"\s*[0-9a-f]+: R_X86_64_\w+\s+(\w*)", line):
+            if here and here[-1][0] == "call":
+                here[-1] = (f"call {moved.group(1)}", "")
+        elif head := re.fullmatch(r"[0-9a-f]+ <(.+)>:", line):
             here = found.setdefault(head.group(1), [])
         elif here is not None and (step := re.match(r"\s*[0-9a-f]+:\s+(.+)", line)):
             words = step.group(1).split(None, 1)
