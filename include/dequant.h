@@ -1,4 +1,5 @@
-/* The dequantisation matrices of JPEG XL. Link with target/staticlib/libcapi.a (made by scripts/built.sh).
+/* The dequantisation matrices of JPEG XL. Link with target/staticlib/libcapi.a (made by scripts/built.sh,
+   for x86-64 processors with SSE 4.1).
 
    Each call returns a reply number and writes the reply's values, in the order named at its number below, to `reply`,
    which has exactly 3 places; those that a reply does not use become 0. Where `reply_length` is another number the call

@@ -1,7 +1,7 @@
 // What programs share: the lines that they write, and what those that replay cases take from their input, where a number that isn't there
 // is 0 and a part that isn't there is empty. A function that works something out or fills what it is lent has a contract that fixes it.
-// A function that only writes has none: what it answers is whether the writer that it is lent took the text, and no contract can say what
-// a writer takes. Each function is proved safe and ending.
+// A function that only writes has none: it answers whether the writer that it is lent took the text, and what is written no contract here
+// says, the programs' stored outputs show it. Each function is proved safe and ending.
 #![tactic(auto)]
 
 ghost use Rattle.std.specs.Prelude.{◌≡◌, ◌<◌, ◌≤◌, length};
