@@ -94,7 +94,7 @@ def tables():
     return {
         "functions": table(head, rows[False]),
         "programs": table(head, rows[True]),
-        "private": table(["private function", "wrong program"], hidden),
+        "private": table(["function that no table above has", "wrong program"], hidden),
     }
 
 
