@@ -1,3 +1,4 @@
 pub mod Input
 pub mod Filled
 pub mod Refused
+pub mod Written

@@ -4,7 +4,9 @@
 // says, the programs' stored outputs show it. Each function is proved safe and ending.
 #![tactic(auto)]
 
-ghost use Rattle.std.specs.Prelude.{◌≡◌, ◌<◌, ◌≤◌, length};
+ghost use Rattle.std.specs.Prelude.{◌≡◌, ◌<◌, ◌≤◌, ◌++◌, length, codes, decimal, OnOk};
+ghost use Rattle.std.specs.Io.KnownBytes.{Appends};
+ghost use Rattle.show.specs.Written.{next_of, line_of, reply_of_two, reading_of, refused_of_two, refusal_of};
 ghost use Rattle.show.specs.Refused.{refused_is};
 
 use params::Reading;
@@ -23,53 +25,73 @@ pub use parts::{first, first_i32, first_u16, rest};
 pub use stream::read_full;
 pub use words::word;
 
-pub fn text<W: Write>(out: &mut W, bytes: &[u8]) -> io::Result<()> {
+pub fn text<W: Write>(out: &mut W, bytes: &[u8]) -> io::Result<()>
+    ensures bytes { OnOk result (Appends (W.contents out.old) (W.contents out.new) (bytes.now)) }
+{
     out.write_all(bytes)
 }
 
-pub fn decimal<W: Write>(out: &mut W, n: u64) -> io::Result<()> {
+pub fn decimal<W: Write>(out: &mut W, n: u64) -> io::Result<()>
+    ensures bytes { OnOk result (Appends (W.contents out.old) (W.contents out.new) (decimal n)) }
+{
     write!(out, "{n}")
 }
 
-pub fn blank<W: Write>(out: &mut W) -> io::Result<()> {
+pub fn blank<W: Write>(out: &mut W) -> io::Result<()>
+    ensures bytes { OnOk result (Appends (W.contents out.old) (W.contents out.new) (codes " ")) }
+{
     text(out, b" ")
 }
 
-pub fn comma<W: Write>(out: &mut W) -> io::Result<()> {
+pub fn comma<W: Write>(out: &mut W) -> io::Result<()>
+    ensures bytes { OnOk result (Appends (W.contents out.old) (W.contents out.new) (codes ",")) }
+{
     text(out, b",")
 }
 
-pub fn end<W: Write>(out: &mut W) -> io::Result<()> {
+pub fn end<W: Write>(out: &mut W) -> io::Result<()>
+    ensures bytes { OnOk result (Appends (W.contents out.old) (W.contents out.new) (codes "\n")) }
+{
     text(out, b"\n")
 }
 
 // A number behind a blank.
-pub fn next<W: Write>(out: &mut W, n: u64) -> io::Result<()> {
+pub fn next<W: Write>(out: &mut W, n: u64) -> io::Result<()>
+    ensures bytes { OnOk result (Appends (W.contents out.old) (W.contents out.new) (next_of n)) }
+{
     blank(out)?;
     decimal(out, n)
 }
 
 // A name, a number and a line end.
-pub fn line<W: Write>(out: &mut W, name: &[u8], n: u64) -> io::Result<()> {
+pub fn line<W: Write>(out: &mut W, name: &[u8], n: u64) -> io::Result<()>
+    ensures bytes { OnOk result (Appends (W.contents out.old) (W.contents out.new) (line_of name.now n)) }
+{
     text(out, name)?;
     decimal(out, n)?;
     end(out)
 }
 
 // The numbers of a reply of two values, as document 01's table has them.
-fn reply<W: Write>(out: &mut W, number: u64, kind: usize, bit: u64) -> io::Result<()> {
+fn reply<W: Write>(out: &mut W, number: u64, kind: usize, bit: u64) -> io::Result<()>
+    ensures bytes { OnOk result (Appends (W.contents out.old) (W.contents out.new) (reply_of_two number kind bit)) }
+{
     decimal(out, number)?;
     next(out, kind as u64)?;
     next(out, bit)
 }
 
-fn short_reply<W: Write>(out: &mut W, kind: usize, bit: u64, lacks: u64) -> io::Result<()> {
+fn short_reply<W: Write>(out: &mut W, kind: usize, bit: u64, lacks: u64) -> io::Result<()>
+    ensures bytes { OnOk result (Appends (W.contents out.old) (W.contents out.new) (reply_of_two 2 kind bit ++ next_of lacks)) }
+{
     reply(out, 2, kind, bit)?;
     next(out, lacks)
 }
 
 // The reply of a reading: document 01's number, and its values.
-fn reading<W: Write>(out: &mut W, r: Reading) -> io::Result<()> {
+fn reading<W: Write>(out: &mut W, r: Reading) -> io::Result<()>
+    ensures bytes { OnOk result (Appends (W.contents out.old) (W.contents out.new) (reading_of r)) }
+{
     match r {
         Reading::Done { next } => done(out, next),
         Reading::Lent => decimal(out, 1),
@@ -80,24 +102,32 @@ fn reading<W: Write>(out: &mut W, r: Reading) -> io::Result<()> {
     }
 }
 
-fn done<W: Write>(out: &mut W, bit: u64) -> io::Result<()> {
+fn done<W: Write>(out: &mut W, bit: u64) -> io::Result<()>
+    ensures bytes { OnOk result (Appends (W.contents out.old) (W.contents out.new) (decimal 0 ++ next_of bit)) }
+{
     decimal(out, 0)?;
     next(out, bit)
 }
 
 // The line of a reading's reply.
-pub fn reply_line<W: Write>(out: &mut W, r: Reading) -> io::Result<()> {
+pub fn reply_line<W: Write>(out: &mut W, r: Reading) -> io::Result<()>
+    ensures bytes { OnOk result (Appends (W.contents out.old) (W.contents out.new) (codes "reply=" ++ reading_of r ++ codes "\n")) }
+{
     text(out, b"reply=")?;
     reading(out, r)?;
     end(out)
 }
 
 // The line of a refusal's number.
-pub fn refusal<W: Write>(out: &mut W, number: u64) -> io::Result<()> {
+pub fn refusal<W: Write>(out: &mut W, number: u64) -> io::Result<()>
+    ensures bytes { OnOk result (Appends (W.contents out.old) (W.contents out.new) (line_of (codes "refused=") number)) }
+{
     line(out, b"refused=", number)
 }
 
-pub fn kind<W: Write>(out: &mut W, kind: usize) -> io::Result<()> {
+pub fn kind<W: Write>(out: &mut W, kind: usize) -> io::Result<()>
+    ensures bytes { OnOk result (Appends (W.contents out.old) (W.contents out.new) (line_of (codes "kind=") kind)) }
+{
     line(out, b"kind=", kind as u64)
 }
 
@@ -120,7 +150,9 @@ pub fn is_refused(r: Reading) -> bool
 }
 
 // A refused reading, a line for each number, and nothing of one that is done.
-pub fn refused<W: Write>(out: &mut W, r: Reading) -> io::Result<()> {
+pub fn refused<W: Write>(out: &mut W, r: Reading) -> io::Result<()>
+    ensures bytes { OnOk result (Appends (W.contents out.old) (W.contents out.new) (refusal_of r)) }
+{
     match r {
         Reading::Done { next: _ } => Ok(()),
         Reading::Lent => refusal(out, 1),
@@ -131,13 +163,17 @@ pub fn refused<W: Write>(out: &mut W, r: Reading) -> io::Result<()> {
     }
 }
 
-fn refused_at<W: Write>(out: &mut W, number: u64, no: usize, bit: u64) -> io::Result<()> {
+fn refused_at<W: Write>(out: &mut W, number: u64, no: usize, bit: u64) -> io::Result<()>
+    ensures bytes { OnOk result (Appends (W.contents out.old) (W.contents out.new) (refused_of_two number no bit)) }
+{
     refusal(out, number)?;
     kind(out, no)?;
     line(out, b"bit=", bit)
 }
 
-fn refused_short<W: Write>(out: &mut W, no: usize, bit: u64, lacks: u64) -> io::Result<()> {
+fn refused_short<W: Write>(out: &mut W, no: usize, bit: u64, lacks: u64) -> io::Result<()>
+    ensures bytes { OnOk result (Appends (W.contents out.old) (W.contents out.new) (refused_of_two 2 no bit ++ line_of (codes "lacks=") lacks)) }
+{
     refused_at(out, 2, no, bit)?;
     line(out, b"lacks=", lacks)
 }

@@ -1,0 +1,38 @@
+-- What the lines are that programs write, as bytes: numbers in decimal, those of a row in hexadecimal.
+use Rattle.std.specs.Prelude.{ℕ, List, [], ◌++◌, codes, decimal}
+use Rattle.params.specs.declared.read.Reading.{Reading}
+use Rattle.params.specs.declared.read.Reading.TheVariants.{Done, Lent, Short, Mode, Float, Raw}
+
+-- a number behind a blank
+abbrev pub next_of : ℕ → List ℕ
+next_of n = codes " " ++ decimal n
+
+-- a name, a number and a line end
+abbrev pub line_of : List ℕ → ℕ → List ℕ
+line_of name n = name ++ decimal n ++ codes "\n"
+
+-- a reply's number, a kind and a bit
+abbrev pub reply_of_two : ℕ → ℕ → ℕ → List ℕ
+reply_of_two number kind bit = decimal number ++ next_of kind ++ next_of bit
+
+-- the numbers of a reading's reply
+abbrev pub reading_of : Reading → List ℕ
+reading_of (Done q) = decimal 0 ++ next_of q
+reading_of Lent = decimal 1
+reading_of (Short k p l) = reply_of_two 2 k p ++ next_of l
+reading_of (Mode k p) = reply_of_two 3 k p
+reading_of (Float k p) = reply_of_two 4 k p
+reading_of (Raw k q) = reply_of_two 5 k q
+
+-- the lines of a refusal: its number, the kind and the bit
+abbrev pub refused_of_two : ℕ → ℕ → ℕ → List ℕ
+refused_of_two number kind bit = line_of (codes "refused=") number ++ line_of (codes "kind=") kind ++ line_of (codes "bit=") bit
+
+-- the lines of a refused reading, and none of one that is done
+abbrev pub refusal_of : Reading → List ℕ
+refusal_of (Done q) = []
+refusal_of Lent = line_of (codes "refused=") 1
+refusal_of (Short k p l) = refused_of_two 2 k p ++ line_of (codes "lacks=") l
+refusal_of (Mode k p) = refused_of_two 3 k p
+refusal_of (Float k p) = refused_of_two 4 k p
+refusal_of (Raw k q) = refused_of_two 5 k q
