@@ -1,5 +1,6 @@
 -- What the lines are that programs write, as bytes: numbers in decimal, those of a row in hexadecimal.
-use Rattle.std.specs.Prelude.{ℕ, List, [], ◌++◌, codes, decimal}
+use Rattle.std.specs.Prelude.{ℕ, zero, suc, List, [], ◌++◌, false, cond, eqb, get_or, length, codes, decimal}
+use Rattle.std.specs.Fmt.{digits}
 use Rattle.params.specs.declared.read.Reading.{Reading}
 use Rattle.params.specs.declared.read.Reading.TheVariants.{Done, Lent, Short, Mode, Float, Raw}
 
@@ -36,3 +37,22 @@ refusal_of (Short k p l) = refused_of_two 2 k p ++ line_of (codes "lacks=") l
 refusal_of (Mode k p) = refused_of_two 3 k p
 refusal_of (Float k p) = refused_of_two 4 k p
 refusal_of (Raw k q) = refused_of_two 5 k q
+
+-- how many of the first n numbers of a row are written: the zeros at the end are not, but the first number always is
+unfoldable pub used_of : List ℕ → ℕ → ℕ
+used_of row zero = zero
+used_of row (suc zero) = suc zero
+used_of row (suc (suc n)) = cond (eqb (get_or row (suc n) 0) 0) (used_of row (suc n)) (suc (suc n))
+
+-- a number of a row, a comma before each but the first
+abbrev pub item_of : ℕ → ℕ → List ℕ
+item_of i x = cond (eqb i 0) [] (codes ",") ++ digits 16 false x
+
+-- the first n numbers of a row
+unfoldable pub items_of : List ℕ → ℕ → List ℕ
+items_of row zero = []
+items_of row (suc n) = items_of row n ++ item_of n (get_or row n 0)
+
+-- the line of a row
+abbrev pub row_of : ℕ → List ℕ → List ℕ
+row_of kind row = codes "row." ++ decimal kind ++ codes "=" ++ items_of row (used_of row (length row)) ++ codes "\n"

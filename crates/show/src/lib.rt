@@ -1,12 +1,13 @@
 // What programs share: the lines that they write, and what those that replay cases take from their input, where a number that isn't there
 // is 0 and a part that isn't there is empty. A function that works something out or fills what it is lent has a contract that fixes it.
-// A function that only writes has none: it answers whether the writer that it is lent took the text, and what is written no contract here
-// says, the programs' stored outputs show it. Each function is proved safe and ending.
+// A function that only writes answers whether the writer that it is lent took the text, and promises which bytes a writer that says what
+// it holds then holds more. Each function is proved safe and ending.
 #![tactic(auto)]
 
-ghost use Rattle.std.specs.Prelude.{◌≡◌, ◌<◌, ◌≤◌, ◌++◌, length, codes, decimal, OnOk};
+ghost use Rattle.std.specs.Prelude.{◌≡◌, ◌<◌, ◌≤◌, ◌++◌, length, codes, decimal, false, OnOk};
+ghost use Rattle.std.specs.Fmt.{digits};
 ghost use Rattle.std.specs.Io.KnownBytes.{Appends};
-ghost use Rattle.show.specs.Written.{next_of, line_of, reply_of_two, reading_of, refused_of_two, refusal_of};
+ghost use Rattle.show.specs.Written.{next_of, line_of, reply_of_two, reading_of, refused_of_two, refusal_of, used_of, item_of, row_of};
 ghost use Rattle.show.specs.Refused.{refused_is};
 
 use params::Reading;
@@ -178,13 +179,16 @@ fn refused_short<W: Write>(out: &mut W, no: usize, bit: u64, lacks: u64) -> io::
     line(out, b"lacks=", lacks)
 }
 
-fn wide(x: u16) -> u64 {
+fn wide(x: u16) -> u64
+    ensures { result ≡ x }
+{
     x as u64
 }
 
 // Where the zeros at the end of a row begin, but never before its second number.
 fn used(row: &[u16]) -> usize
-    ensures { result ≤ length row.now }
+    ensures used { result ≡ used_of row.now (length row.now) }
+    ensures within { result ≤ length row.now }
 {
     let mut n = row.len();
     while n > 1 {
@@ -197,23 +201,36 @@ fn used(row: &[u16]) -> usize
 }
 
 // What stands before a row's numbers.
-fn row_name<W: Write>(out: &mut W, kind: usize) -> io::Result<()> {
+fn row_name<W: Write>(out: &mut W, kind: usize) -> io::Result<()>
+    ensures bytes { OnOk result (Appends (W.contents out.old) (W.contents out.new) (codes "row." ++ decimal kind ++ codes "=")) }
+{
     text(out, b"row.")?;
     decimal(out, kind as u64)?;
     text(out, b"=")
 }
 
-// A number of a row, a comma before each but the first.
-fn item<W: Write>(out: &mut W, i: usize, x: u16) -> io::Result<()> {
-    if i > 0 {
-        comma(out)?;
-    }
+fn hexadecimal<W: Write>(out: &mut W, x: u16) -> io::Result<()>
+    ensures bytes { OnOk result (Appends (W.contents out.old) (W.contents out.new) (digits 16 false x)) }
+{
     let number = wide(x);
     write!(out, "{number:x}")
 }
 
+// A number of a row, a comma before each but the first.
+fn item<W: Write>(out: &mut W, i: usize, x: u16) -> io::Result<()>
+    ensures bytes { OnOk result (Appends (W.contents out.old) (W.contents out.new) (item_of i x)) }
+{
+    if i == 0 {
+        return hexadecimal(out, x);
+    }
+    comma(out)?;
+    hexadecimal(out, x)
+}
+
 // The numbers of a row in hexadecimal, commas between them, without the zeros at its end.
-pub fn row<W: Write>(out: &mut W, kind: usize, numbers: &[u16]) -> io::Result<()> {
+pub fn row<W: Write>(out: &mut W, kind: usize, numbers: &[u16]) -> io::Result<()>
+    ensures bytes { OnOk result (Appends (W.contents out.old) (W.contents out.new) (row_of kind numbers.now)) }
+{
     row_name(out, kind)?;
     let n = used(numbers);
     let mut i = 0;
