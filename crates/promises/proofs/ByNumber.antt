@@ -6,9 +6,10 @@ use native.Mathlib.Omega.{arith}
 use borrow.Author.Tests.{ne_eqb}
 use lib.ListN.{get_or}
 use Rattle.transform.proofs.Numbered.{differs}
-use Rattle.params.specs.declared.read.Reading.{Reading}
-use Rattle.params.specs.declared.read.Reading.TheVariants as reading
-use Rattle.params.specs.Header.{reply_of as read_reply}
+use Rattle.std.specs.Prelude.{Ok, Err}
+use Rattle.params.specs.declared.read.Stop.TheVariants as stop
+use Rattle.params.specs.declared.read.HeaderError.TheVariants as error
+use Rattle.params.specs.Header.{Reading, reply_of as read_reply}
 use Rattle.matrix.specs.declared.Expanded.{Expanded}
 use Rattle.matrix.specs.declared.Expanded.TheVariants.{Done, Lent, Row, Band, Weight, Denom}
 use Rattle.matrix.specs.Expanded.{reply_of}
@@ -46,28 +47,28 @@ jpeg_done (jpeg.Row k) e = absurd (other 5 (k ∷ []) [] e)
 jpeg_done jpeg.None e = absurd (other 10 [] [] e)
 
 -- of reading, with the next bit
-pub read_done : (r : Reading) (q : ℕ) → read_reply r ≡ 0 ∷ q ∷ [] → r ≡ reading.Done q
-read_done (reading.Done p) q e = ap (λ (l : List ℕ). reading.Done (get_or l 1 0)) e
-read_done reading.Lent q e = absurd (other 0 [] (q ∷ []) e)
-read_done (reading.Short k p l) q e = absurd (other 1 (k ∷ p ∷ l ∷ []) (q ∷ []) e)
-read_done (reading.Mode k p) q e = absurd (other 2 (k ∷ p ∷ []) (q ∷ []) e)
-read_done (reading.Float k p) q e = absurd (other 3 (k ∷ p ∷ []) (q ∷ []) e)
-read_done (reading.Raw k p) q e = absurd (other 4 (k ∷ p ∷ []) (q ∷ []) e)
+pub read_done : (r : Reading) (q : ℕ) → read_reply r ≡ 0 ∷ q ∷ [] → r ≡ Ok (stop.Done q)
+read_done (Ok (stop.Done p)) q e = ap (λ (l : List ℕ). Ok (stop.Done (get_or l 1 0))) e
+read_done (Ok (stop.Raw k p)) q e = absurd (other 4 (k ∷ p ∷ []) (q ∷ []) e)
+read_done (Err error.Lent) q e = absurd (other 0 [] (q ∷ []) e)
+read_done (Err (error.Short k p l)) q e = absurd (other 1 (k ∷ p ∷ l ∷ []) (q ∷ []) e)
+read_done (Err (error.Mode k p)) q e = absurd (other 2 (k ∷ p ∷ []) (q ∷ []) e)
+read_done (Err (error.Float k p)) q e = absurd (other 3 (k ∷ p ∷ []) (q ∷ []) e)
 
 -- and with RAW's kind and next bit
-pub read_raw : (r : Reading) (k q : ℕ) → read_reply r ≡ 5 ∷ k ∷ q ∷ [] → r ≡ reading.Raw k q
-read_raw (reading.Done p) k q e = absurd (differs 0 5 (p ∷ []) (k ∷ q ∷ []) refl e)
-read_raw reading.Lent k q e = absurd (differs 1 5 [] (k ∷ q ∷ []) refl e)
-read_raw (reading.Short i p l) k q e = absurd (differs 2 5 (i ∷ p ∷ l ∷ []) (k ∷ q ∷ []) refl e)
-read_raw (reading.Mode i p) k q e = absurd (differs 3 5 (i ∷ p ∷ []) (k ∷ q ∷ []) refl e)
-read_raw (reading.Float i p) k q e = absurd (differs 4 5 (i ∷ p ∷ []) (k ∷ q ∷ []) refl e)
-read_raw (reading.Raw i p) k q e = ap (λ (l : List ℕ). reading.Raw (get_or l 1 0) (get_or l 2 0)) e
+pub read_raw : (r : Reading) (k q : ℕ) → read_reply r ≡ 5 ∷ k ∷ q ∷ [] → r ≡ Ok (stop.Raw k q)
+read_raw (Ok (stop.Done p)) k q e = absurd (differs 0 5 (p ∷ []) (k ∷ q ∷ []) refl e)
+read_raw (Ok (stop.Raw i p)) k q e = ap (λ (l : List ℕ). Ok (stop.Raw (get_or l 1 0) (get_or l 2 0))) e
+read_raw (Err error.Lent) k q e = absurd (differs 1 5 [] (k ∷ q ∷ []) refl e)
+read_raw (Err (error.Short i p l)) k q e = absurd (differs 2 5 (i ∷ p ∷ l ∷ []) (k ∷ q ∷ []) refl e)
+read_raw (Err (error.Mode i p)) k q e = absurd (differs 3 5 (i ∷ p ∷ []) (k ∷ q ∷ []) refl e)
+read_raw (Err (error.Float i p)) k q e = absurd (differs 4 5 (i ∷ p ∷ []) (k ∷ q ∷ []) refl e)
 
 -- and with SHORT's kind, bit and how much is lacking
-pub read_short : (r : Reading) (k q l : ℕ) → read_reply r ≡ 2 ∷ k ∷ q ∷ l ∷ [] → r ≡ reading.Short k q l
-read_short (reading.Done p) k q l e = absurd (differs 0 2 (p ∷ []) (k ∷ q ∷ l ∷ []) refl e)
-read_short reading.Lent k q l e = absurd (differs 1 2 [] (k ∷ q ∷ l ∷ []) refl e)
-read_short (reading.Short i p m) k q l e = ap (λ (l : List ℕ). reading.Short (get_or l 1 0) (get_or l 2 0) (get_or l 3 0)) e
-read_short (reading.Mode i p) k q l e = absurd (differs 3 2 (i ∷ p ∷ []) (k ∷ q ∷ l ∷ []) refl e)
-read_short (reading.Float i p) k q l e = absurd (differs 4 2 (i ∷ p ∷ []) (k ∷ q ∷ l ∷ []) refl e)
-read_short (reading.Raw i p) k q l e = absurd (differs 5 2 (i ∷ p ∷ []) (k ∷ q ∷ l ∷ []) refl e)
+pub read_short : (r : Reading) (k q l : ℕ) → read_reply r ≡ 2 ∷ k ∷ q ∷ l ∷ [] → r ≡ Err (error.Short k q l)
+read_short (Ok (stop.Done p)) k q l e = absurd (differs 0 2 (p ∷ []) (k ∷ q ∷ l ∷ []) refl e)
+read_short (Ok (stop.Raw i p)) k q l e = absurd (differs 5 2 (i ∷ p ∷ []) (k ∷ q ∷ l ∷ []) refl e)
+read_short (Err error.Lent) k q l e = absurd (differs 1 2 [] (k ∷ q ∷ l ∷ []) refl e)
+read_short (Err (error.Short i p m)) k q l e = ap (λ (l : List ℕ). Err (error.Short (get_or l 1 0) (get_or l 2 0) (get_or l 3 0))) e
+read_short (Err (error.Mode i p)) k q l e = absurd (differs 3 2 (i ∷ p ∷ []) (k ∷ q ∷ l ∷ []) refl e)
+read_short (Err (error.Float i p)) k q l e = absurd (differs 4 2 (i ∷ p ∷ []) (k ∷ q ∷ l ∷ []) refl e)
