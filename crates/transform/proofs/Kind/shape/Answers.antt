@@ -1,17 +1,29 @@
--- `Kind::shape` meets its contract: each row of the table has its kind's width, height and start, by one computed test; past the table there is nothing. Assumes nothing.
+-- `Kind::shape` meets its contract: the table's columns are the widths and the heights, and the running sums, by one computed test; past it there is nothing. Assumes nothing.
 use mathlib.Core.Path.{◌≡◌, sym, ap, ◌∙◌}
 use mathlib.Core.Logic.{⊎_elim}
-use mathlib.Core.Bool.{Bool, ◌&&◌}
+use mathlib.Core.Bool.{Bool}
+use mathlib.Core.List.{List, map}
 use Prim.Native.Nat.{ℕ, ◌≤◌, ◌<◌}
-use lib.Dec.{T, eqb, eqb→eq}
-use lib.Ieee.Fits.{and_l, and_r}
-use lib.ListN.{get_or, get_or-eq_default}
+use lib.Dec.{eqb, eqb→eq}
+use lib.ListN.{get_or, get_or-map, get_or-eq_default}
 use borrow.Author.Rules.{rules}
+use Rattle.std.proofs.lemmas.List.{get_or_default}
 use Rattle.transform.specs.declared.Shape.{Shape}
 use Rattle.transform.specs.declared.TheConstants.{SHAPES}
 use Rattle.transform.specs.Kinds.{width_of, height_of, start_of}
-use Rattle.transform.proofs.Laws.{at, side, no_width, no_height, total}
+use Rattle.transform.proofs.Laws.{at, side, total}
 use Rattle.transform.proofs.Kind.shape.Goals as goal
+
+abbrev pub starts : List ℕ
+starts = map (λ (r : ℕ × ℕ × ℕ). r.2) SHAPES
+
+right : ℕ → Bool
+right k = eqb (get_or starts k 0) (start_of k)
+
+-- the table's starts are the running sums
+pub starts_sum : (k : ℕ) → k < 17 → get_or starts k 0 ≡ start_of k
+unfolding right start_of
+starts_sum k h = eqb→eq _ _ (at right 17 tt k h)
 
 -- what stands past the table
 abbrev past : ℕ × ℕ × ℕ
@@ -21,33 +33,26 @@ past = (0, 0, 394752)
 abbrev row : ℕ → ℕ × ℕ × ℕ
 row k = get_or SHAPES k past
 
-abbrev made : ℕ × ℕ × ℕ → Shape
-made r = record { width = r.0; height = r.1; start = r.2 }
+row_width : (k : ℕ) → (row k).0 ≡ width_of k
+unfolding width_of
+row_width k = sym (get_or-map (λ (r : ℕ × ℕ × ℕ). r.0) SHAPES k past)
 
-abbrev shape_of : ℕ → Shape
-shape_of k = record { width = width_of k; height = height_of k; start = start_of k }
+row_height : (k : ℕ) → (row k).1 ≡ height_of k
+unfolding height_of
+row_height k = sym (get_or-map (λ (r : ℕ × ℕ × ℕ). r.1) SHAPES k past)
 
-right : ℕ → Bool
-right k = eqb (row k).0 (width_of k) && (eqb (row k).1 (height_of k) && eqb (row k).2 (start_of k))
-
-same : (r : ℕ × ℕ × ℕ) (k : ℕ) → r.0 ≡ width_of k → r.1 ≡ height_of k → r.2 ≡ start_of k → made r ≡ shape_of k
-same r k w h s = rw (w, h, s)
-
-row_is : (k : ℕ) → T (right k) → made (row k) ≡ shape_of k
-unfolding right
-row_is k t =
-    let u = and_r (eqb (row k).0 (width_of k)) _ t in
-    same (row k) k (eqb→eq _ _ (and_l _ _ t)) (eqb→eq _ _ (and_l _ _ u)) (eqb→eq _ _ (and_r (eqb (row k).1 (height_of k)) _ u))
-
-every_row : (k : ℕ) → made (row k) ≡ shape_of k
-unfolding right width_of height_of start_of
-every_row k =
+row_start : (k : ℕ) → (row k).2 ≡ start_of k
+row_start k =
     ⊎_elim
-    (λ (l : k < 17). row_is k (at right 17 tt k l))
-    (λ (l : 17 ≤ k). ap made (get_or-eq_default SHAPES past l) ∙ same past k (sym (no_width k l)) (sym (no_height k l)) (sym (total k l)))
+    (λ (l : k < 17). sym (get_or-map (λ (r : ℕ × ℕ × ℕ). r.2) SHAPES k past) ∙ get_or_default starts k 394752 0 l ∙ starts_sum k l)
+    (λ (l : 17 ≤ k). ap (λ (r : ℕ × ℕ × ℕ). r.2) (get_or-eq_default SHAPES past l) ∙ sym (total k l))
     (side k 17)
+
+made : (r : ℕ × ℕ × ℕ) (w h s : ℕ) → r.0 ≡ w → r.1 ≡ h → r.2 ≡ s → ◌≡◌ {A = Shape} (record { width = r.0; height = r.1; start = r.2 }) (record { width = w; height = h; start = s })
+made r w h s a b c = rw (a, b, c)
 
 pub returns : goal.returns
 returns c =
-    let e : c.unwrap_or-width.result ≡ row c.args.self.no = search rules in
-    ap made e ∙ every_row c.args.self.no
+    let k = c.args.self.no in
+    let e : c.unwrap_or-width.result ≡ row k = search rules in
+    rw e (made (row k) (width_of k) (height_of k) (start_of k) (row_width k) (row_height k) (row_start k))
