@@ -15,12 +15,10 @@ fn begun(last: [u32; 8], j: usize) -> Eight
     let s = 30 - (j << 1);
     let mut rem = [0u32; 8];
     let mut left = [0u32; 8];
-    let mut i: usize = 0;
-    while i < 8 {
+    for i in 0..8 {
         let w = last[i] << 1;
         rem[i] = w >> s;
         left[i] = w << (32 - s);
-        i += 1;
     }
     digits_eight([2 << j; 8], rem, left, 27 - j)
 }
@@ -56,10 +54,8 @@ fn by_digits(last: [u32; 8], j: usize) -> [u32; 8]
     let root = most.root;
     let rem = most.rem;
     let mut all = [0u32; 8];
-    let mut i: usize = 0;
-    while i < 8 {
+    for i in 0..8 {
         all[i] = last_three(root[i], rem[i]);
-        i += 1;
     }
     all
 }
@@ -83,10 +79,8 @@ fn by_halves(last: [u32; 8]) -> [u32; 8]
     ensures { Next last result }
 {
     let mut all = [0u32; 8];
-    let mut i: usize = 0;
-    while i < 8 {
+    for i in 0..8 {
         all[i] = half(last[i]);
-        i += 1;
     }
     all
 }

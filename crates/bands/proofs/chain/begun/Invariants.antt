@@ -5,6 +5,3 @@ use Rattle.bands.proofs.chain.begun.Given as goal
 
 abbrev pub invariant-loop-i : goal.invariant-loop-i
 invariant-loop-i l = Building 0 8 (λ k. get_or l.last k 0 * 2 % 2 ^ 32 / 2 ^ l.s) l.rem l.i × Building 0 8 (λ k. get_or l.last k 0 * 2 % 2 ^ 32 * 2 ^ (32 - l.s) % 2 ^ 32) l.left l.i
-
-abbrev pub decreases-loop-i : goal.decreases-loop-i
-decreases-loop-i l = 8 - l.i
