@@ -6,6 +6,3 @@ use Rattle.bands.proofs.list.sound_bands.Given as goal
 
 abbrev pub invariant-loop-i : goal.invariant-loop-i
 invariant-loop-i l = Sounding (at_of l.numbers) (length l.numbers) l.i l.last
-
-abbrev pub decreases-loop-i : goal.decreases-loop-i
-decreases-loop-i l = length l.numbers - l.i
