@@ -1,5 +1,5 @@
 -- `list::lay_bands`: band after band (`Filling`). Assumes nothing.
-use Rattle.std.proofs.Common.{◌-◌, length}
+use Rattle.std.proofs.Common.{length}
 use Rattle.bands.specs.Bands.{at_of}
 use Rattle.bands.proofs.Sound.{Filling}
 use Rattle.bands.proofs.list.lay_bands.Given as goal

@@ -1,5 +1,5 @@
 -- `list::sound_bands`: band after band (`Sounding`). Assumes nothing.
-use Rattle.std.proofs.Common.{◌-◌, length}
+use Rattle.std.proofs.Common.{length}
 use Rattle.bands.specs.Bands.{at_of}
 use Rattle.bands.proofs.Sound.{Sounding}
 use Rattle.bands.proofs.list.sound_bands.Given as goal
