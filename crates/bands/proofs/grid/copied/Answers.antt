@@ -67,9 +67,6 @@ overflow_add-row c = omega (arith, known _ _ _ _ c.if-w-h.false c.requires.2 c.l
 pub put-requires : goal.put-requires
 put-requires c = let k = known _ _ _ _ c.if-w-h.false c.requires.2 c.loop-x-test.true c.requires.1 in (k.1, c.loop-x.invariant.1, k.2)
 
-pub overflow_add-x : goal.overflow_add-x
-overflow_add-x c = omega (arith, known _ _ _ _ c.if-w-h.false c.requires.2 c.loop-x-test.true c.requires.1)
-
 pub loop-x-preserved : goal.loop-x-preserved
 loop-x-preserved c =
     let a = c.args in

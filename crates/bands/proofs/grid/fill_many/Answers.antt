@@ -20,12 +20,6 @@ copied-from-requires c = let g = c.requires.0 in (g.wide, g.not_wider, c.loop-y-
 pub positions-s-requires : goal.positions-s-requires
 positions-s-requires c = let p = c.requires in (sized _ _ _ _ p.0 p.1, c.loop-y-test.true)
 
-pub overflow_add-y : goal.overflow_add-y
-overflow_add-y c = omega (arith, c.loop-y-test.true, c.requires.0.not_higher)
-
-pub loop-y-smaller : goal.loop-y-smaller
-loop-y-smaller c = omega (arith, c.loop-y-test.true)
-
 pub loop-y-preserved : goal.loop-y-preserved
 loop-y-preserved c =
     let a = c.args in

@@ -11,9 +11,6 @@ use Rattle.bands.proofs.grid.weigh_row.Goals as goal
 pub top_chain-top-requires : goal.top_chain-top-requires
 top_chain-top-requires c = tt
 
-pub loop-x-smaller : goal.loop-x-smaller
-loop-x-smaller c = omega (arith, c.loop-x-test.true)
-
 pub returns : goal.returns
 returns c =
     let a = c.args in
