@@ -7,13 +7,13 @@ use Rattle.bands.proofs.freq.numbers_at.Goals as goal
 
 pub weigh_three-requires : goal.weigh_three-requires
 weigh_three-requires c =
-    let v = c.before.before.before.before in
+    let v = c in
     let h = v.requires in
-    (c.top_chain-top.ensures, lit≤ tt, subst (Cut 4) (sym c.freq_position.ensures) (freq_cut v.args.k h.0 (sym v.has_number.ensures ∙ c.if-has_number.true)), h.1)
+    (lit≤ tt, subst (Cut 4) (sym c.freq_position.ensures) (freq_cut v.args.k h.0 (sym v.has_number.ensures ∙ c.if-has_number.true)), h.1)
 
 pub returns-then-has_number : goal.returns-then-has_number
 returns-then-has_number c =
-    let v = c.before.before.before.before.before in
+    let v = c in
     let a = v.args in
     let e = sym v.has_number.ensures ∙ c.if-has_number.true in
     let p = c.freq_position in
