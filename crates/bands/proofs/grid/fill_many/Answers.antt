@@ -36,5 +36,5 @@ returns c =
     laid_all (grid_cell a.bands.now a.count a.w a.h) (a.w * a.h) (l.y * a.w) l.out
     (area_pos a.w a.h g.wide g.high) (le_trans (le_of_eq (mul_comm a.w a.h)) (mul-le-mul_right a.w c.loop-y-test.false)) l.invariant.1
 
-pub weigh_row-requires-clause-held : goal.weigh_row-requires-clause-held
-weigh_row-requires-clause-held c = let a = c.args in (c.chains-t.ensures, c.copied-from.ensures.1.lays (grid_cell a.bands.now a.count a.w a.h) (mirrored a.bands.now a.count a.w a.h) c.loop-y.invariant.1)
+pub weigh_row-requires-clause-laid : goal.weigh_row-requires-clause-laid
+weigh_row-requires-clause-laid c = let a = c.args in c.copied-from.ensures.1.lays (grid_cell a.bands.now a.count a.w a.h) (mirrored a.bands.now a.count a.w a.h) c.loop-y.invariant.1
