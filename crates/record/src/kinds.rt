@@ -67,13 +67,7 @@ pub(crate) fn part_start(kind: usize, mode: usize) -> usize
 }
 
 // The line of a kind's samples, where there is one, into its part of the arena.
-fn part_at(
-    s: &[u8],
-    at: usize,
-    kind: usize,
-    mode: usize,
-    arena: &mut [i32],
-) -> Result<usize, Bad>
+fn part_at(s: &[u8], at: usize, kind: usize, mode: usize, arena: &mut [i32]) -> Result<usize, Bad>
     requires { at ≤ length s.now }
     ensures scanned { result ≡ seen (read_at (line (bytes "samples=") (pos 0) signed (sample_count kind mode)) s.now at) }
     ensures stored { (vs : List ℤ) (q : ℕ) → read_at (line (bytes "samples=") (pos 0) signed (sample_count kind mode)) s.now at ≡ got vs q → arena.new ≡ sets arena.old (start_of kind) vs }

@@ -1,41 +1,19 @@
--- `record::piece::slots` meets its contract: the loop of `ItemPlaces`, over band counts or half floats. Assumes nothing.
-use mathlib.Core.Path.{subst⁻¹}
-use Prim.Native.Nat.{ℕ, ◌-◌, ◌<◌}
-use native.Mathlib.Omega.{arith}
+-- `record::series::items_at` meets its contract: the loop of `ItemPlaces`. Assumes nothing.
+use mathlib.Core.Path.{◌∙◌}
 use borrow.Author.Rules.{rules}
-use Rattle.record.specs.Answers.{slot}
-use Rattle.record.proofs.Slots.{slot_lawful, slot_small}
-use Rattle.record.proofs.Records.{end_small, end_some}
-use Rattle.record.proofs.ItemPlaces.{listed_start, listed_seen, listed_stored, listed_length, turn_bad, turn_got, num_got, num_bad}
-use Rattle.record.proofs.piece.slots.Goals as goal
+use Rattle.record.proofs.ItemPlaces.{handed, listed_end, turn_bad, turn_got}
+use Rattle.record.proofs.series.items_at.Goals as goal
 
-pub loop-left-init : goal.loop-left-init
-loop-left-init c = (search rules, listed_start 0 (slot c.args.hex) _ _ _ _ _ (search rules))
+pub returns-in_err-v : goal.returns-in_err-v
+returns-in_err-v g c =
+    let o = turn_bad g.S.Series.any g.S.Series.format _ _ _ _ _ _ _ _ c.loop-i.invariant.1 c.loop-i-test.true _ c.end_of.ensures _ c.in_err-v.ensures.item in
+    record { scanned = handed _ _ c.from_residual.ensures.1 ∙ o.0; stored = o.1 }
 
-pub slot_at-requires : goal.slot_at-requires
-slot_at-requires c = (c.loop-left.invariant.1.within, let e = c.end_of-end.ensures in (subst⁻¹ (λ (x : ℕ). x < 48) e (end_small (c.loop-left.left - 1)), subst⁻¹ (λ (x : ℕ). 0 < x) e (end_some (c.loop-left.left - 1))))
-
-pub shape_of-out-in-Bad : goal.shape_of-out-in-Bad
-shape_of-out-in-Bad c = listed_length 0 (slot c.args.hex) _ _ _ _ _ _ _ _ _ c.loop-left.invariant.1
-
-pub overflow_add-j : goal.overflow_add-j
-overflow_add-j c = omega (arith, c.loop-left.invariant.1.counted, c.loop-left.invariant.1.fits, c.loop-left-test.true)
-
-pub loop-left-preserved : goal.loop-left-preserved
-loop-left-preserved c = (
+pub loop-i-preserved : goal.loop-i-preserved
+loop-i-preserved g c = (
   search rules,
-  turn_got 0 (slot c.args.hex) _ _ _ _ _ _ _ _ _ c.loop-left.invariant.1 _ _ _ _ c.loop-left-test.true c.end_of-end.ensures (slot_lawful c.args.hex)
-      (num_got _ _ _ _ c.slot_at.ensures c.in-Got.is) c.put_u16.ensures,
+  turn_got g.S.Series.any g.S.Series.format _ _ _ _ _ _ _ _ c.loop-i.invariant.1 c.loop-i-test.true _ c.end_of.ensures _ _ c.in_ok-v.ensures.item c.in_ok-v.ensures.within _ c.store.ensures,
 )
 
-pub shape_of-out : goal.shape_of-out
-shape_of-out c = listed_length 0 (slot c.args.hex) _ _ _ _ _ _ _ _ _ c.loop-left.invariant.1
-
-pub overflow_cast-v : goal.overflow_cast-v
-overflow_cast-v c = let a = c.args in record { fits = slot_small a.hex a.s.now _ _ _ c.in-Got.v c.in-Got.q (c.loop-left.left - 1) c.end_of-end.ensures c.loop-left.invariant.1.within c.slot_at.ensures c.in-Got.is }
-
-pub returns-in-Bad : goal.returns-in-Bad
-returns-in-Bad c = let o = turn_bad 0 (slot c.args.hex) _ _ _ _ _ _ _ _ _ c.loop-left.invariant.1 _ _ c.loop-left-test.true c.end_of-end.ensures (num_bad _ _ _ c.slot_at.ensures c.in-Bad.is) in record { scanned = o.0; stored = o.1 }
-
 pub returns : goal.returns
-returns c = record { scanned = listed_seen 0 (slot c.args.hex) _ _ _ _ _ _ _ _ _ c.loop-left.invariant.1 c.loop-left-test.false; stored = listed_stored 0 (slot c.args.hex) _ _ _ _ _ _ _ _ _ c.loop-left.invariant.1 c.loop-left-test.false }
+returns g c = let o = listed_end g.S.Series.any g.S.Series.format _ _ _ _ _ _ _ _ c.loop-i.invariant.1 c.loop-i-test.false in record { scanned = o.0; stored = o.1 }
