@@ -24,6 +24,6 @@ returns-then-rows-ne7 c =
     let e = sym c.jpeg_lent.ensures ∙ c.if-not-jpeg_lent.false in
     let ok = row_done _ _ (sym c.check_row.ensures ∙ c.in-Done.is) in
     elim c.then-rows-ne7.branch [
-      then-rows-ne7-via-then-rows-ne7 w ↦ says_plain _ _ _ e ok w.if-rows-ne7.true
+      | then-rows-ne7-via-then-rows-ne7 w ↦ says_plain _ _ _ e ok w.if-rows-ne7.true
       | then-rows-ne7-via-else-rows-ne7+then-not-is_denominator w ↦ says_raw _ _ _ e ok false w.if-rows-ne7.false (sym w.if-not-is_denominator.true ∙ w.is_denominator.ensures)
     ]

@@ -26,11 +26,11 @@ loop-k-preserved c =
     record {
       accepted = turn_answer rows zs l.k Done l.invariant.accepted (sym done ∙ x.ensures.answer);
       straight =
-        turn_laid (straight_of rows zs) l.k l.straight _ (l.auto.straight ∙ fit.first) (straight_length rows zs l.k) l.invariant.straight
-        (x.ensures.straight ∙ ap (λ (r : Expanded). laid l.k (leaves r (straight_of rows zs l.k) (part l.k l.straight)) l.straight) done);
+          turn_laid (straight_of rows zs) l.k l.straight _ (l.auto.straight ∙ fit.first) (straight_length rows zs l.k) l.invariant.straight
+          (x.ensures.straight ∙ ap (λ (r : Expanded). laid l.k (leaves r (straight_of rows zs l.k) (part l.k l.straight)) l.straight) done);
       transposed =
-        turn_laid (transposed_of rows zs) l.k l.transposed _ (l.auto.transposed ∙ fit.second) (transposed_length rows zs l.k) l.invariant.transposed
-        (x.ensures.transposed ∙ ap (λ (r : Expanded). laid l.k (leaves r (transposed_of rows zs l.k) (part l.k l.transposed)) l.transposed) done);
+          turn_laid (transposed_of rows zs) l.k l.transposed _ (l.auto.transposed ∙ fit.second) (transposed_length rows zs l.k) l.invariant.transposed
+          (x.ensures.transposed ∙ ap (λ (r : Expanded). laid l.k (leaves r (transposed_of rows zs l.k) (part l.k l.transposed)) l.transposed) done);
     }
 
 pub returns-then-not-is_done-clause-answer : goal.returns-then-not-is_done-clause-answer
