@@ -1,6 +1,5 @@
 -- `Kind::area` meets its contract. Assumes nothing.
 use native.Mathlib.Omega.{arith}
-use borrow.Author.Rules.{rules}
 use Rattle.transform.specs.Kinds.{area_of}
 use Rattle.transform.proofs.Laws.{area_le}
 use Rattle.transform.proofs.Kind.area.Goals as goal

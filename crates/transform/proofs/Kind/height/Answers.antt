@@ -1,6 +1,5 @@
 -- `Kind::height` meets its contract. Assumes nothing.
 use mathlib.Core.Path.{refl, sym}
-use borrow.Author.Rules.{rules}
 use Rattle.transform.specs.Kinds.{height_of}
 use Rattle.transform.proofs.Laws.{no_height}
 use Rattle.transform.proofs.Kind.height.Goals as goal

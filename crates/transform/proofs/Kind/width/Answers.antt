@@ -1,6 +1,5 @@
 -- `Kind::width` meets its contract. Assumes nothing.
 use mathlib.Core.Path.{refl, sym}
-use borrow.Author.Rules.{rules}
 use Rattle.transform.specs.Kinds.{width_of}
 use Rattle.transform.proofs.Laws.{no_width}
 use Rattle.transform.proofs.Kind.width.Goals as goal

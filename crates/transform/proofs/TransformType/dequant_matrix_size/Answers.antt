@@ -1,5 +1,4 @@
 -- `TransformType::dequant_matrix_size` meets its contract: what it asks of the kind is what `kind_of` says. Assumes nothing.
-use borrow.Author.Rules.{rules}
 use Rattle.transform.proofs.TransformType.dequant_matrix_size.Goals as goal
 
 pub returns : goal.returns
