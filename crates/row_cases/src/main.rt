@@ -215,15 +215,13 @@ fn call<W: Write>(out: &mut W, case: Case, part: &mut [i32], buffer: &mut [u8]) 
     }
 }
 
-fn run_all<W: Write>(out: &mut W, s: &[u8], part: &mut [i32], buffer: &mut [u8]) -> io::Result<()> {
-    show::run_cases(out, s, |out, case| call(out, case, part, buffer))
-}
-
 // With samples, and a buffer that is long enough for each case.
 fn with_buffer<W: Write>(out: &mut W, s: &[u8]) -> io::Result<()> {
     let mut part = [0i32; 394752];
     let mut buffer = [0u8; 4500000];
-    run_all(out, s, &mut part, &mut buffer)
+    show::run_cases(out, s, |out, case| {
+        call(out, case, &mut part, &mut buffer)
+    })
 }
 
 fn main(rt: HostRuntime) -> io::Result<()> {
