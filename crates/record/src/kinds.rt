@@ -49,10 +49,10 @@ pub(crate) fn sample_count(kind: usize, mode: usize) -> usize
     ensures { result ≡ sample_count kind mode }
 {
     if mode == 7 {
-        let shape = Kind { no: kind };
-        return shape.arena_length();
+        Kind { no: kind }.arena_length()
+    } else {
+        0
     }
-    0
 }
 
 // Where a kind's samples start in an arena, or 0 where it has none.
@@ -62,8 +62,7 @@ pub(crate) fn part_start(kind: usize, mode: usize) -> usize
     if mode != 7 {
         return 0;
     }
-    let shape = Kind { no: kind };
-    shape.arena_start()
+    Kind { no: kind }.arena_start()
 }
 
 // The line of a kind's samples, where there is one, into its part of the arena.
