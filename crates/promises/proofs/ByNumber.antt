@@ -10,41 +10,39 @@ use Rattle.std.specs.Prelude.{Ok, Err}
 use Rattle.params.specs.declared.read.Stop.TheVariants as stop
 use Rattle.params.specs.declared.read.HeaderError.TheVariants as error
 use Rattle.params.specs.Header.{Reading, reply_of as read_reply}
-use Rattle.matrix.specs.declared.Expanded.{Expanded}
-use Rattle.matrix.specs.declared.Expanded.TheVariants.{Done, Lent, Row, Band, Weight, Denom}
-use Rattle.matrix.specs.Expanded.{reply_of}
-use Rattle.dequant.specs.declared.jpeg.Jpeg.{Jpeg}
-use Rattle.dequant.specs.declared.jpeg.Jpeg.TheVariants as jpeg
-use Rattle.dequant.specs.Jpeg.{jpeg_numbers}
+use Rattle.matrix.specs.declared.ExpandError.TheVariants.{Lent, Row, Band, Weight, Denom}
+use Rattle.matrix.specs.Expanded.{Expanded, reply_of}
+use Rattle.dequant.specs.declared.jpeg.JpegError.TheVariants as jpeg
+use Rattle.dequant.specs.Jpeg.{Jpeg, jpeg_numbers}
 
 -- another number is not DONE's
 pub other : (n : ℕ) (l m : List ℕ) → suc n ∷ l ≡ 0 ∷ m → ⊥
 other n l m e = differs (suc n) 0 l m (ne_eqb (suc n) 0 (λ z. omega arith)) e
 
 -- of expanding
-pub done_only : (a : Expanded) → reply_of a ≡ 0 ∷ [] → a ≡ Done
-done_only Done e = refl
-done_only Lent e = absurd (other 0 [] [] e)
-done_only (Row k) e = absurd (other 5 (k ∷ []) [] e)
-done_only (Band k c i) e = absurd (other 6 (k ∷ c ∷ i ∷ []) [] e)
-done_only (Weight k c p) e = absurd (other 7 (k ∷ c ∷ p ∷ []) [] e)
-done_only (Denom k) e = absurd (other 11 (k ∷ []) [] e)
+pub done_only : (a : Expanded) → reply_of a ≡ 0 ∷ [] → a ≡ Ok tt
+done_only (Ok u) e = refl
+done_only (Err Lent) e = absurd (other 0 [] [] e)
+done_only (Err (Row k)) e = absurd (other 5 (k ∷ []) [] e)
+done_only (Err (Band k c i)) e = absurd (other 6 (k ∷ c ∷ i ∷ []) [] e)
+done_only (Err (Weight k c p)) e = absurd (other 7 (k ∷ c ∷ p ∷ []) [] e)
+done_only (Err (Denom k)) e = absurd (other 11 (k ∷ []) [] e)
 
 -- and with DENOM's kind
-pub denom_only : (a : Expanded) (k : ℕ) → reply_of a ≡ 12 ∷ k ∷ [] → a ≡ Denom k
-denom_only Done k e = absurd (differs 0 12 [] (k ∷ []) refl e)
-denom_only Lent k e = absurd (differs 1 12 [] (k ∷ []) refl e)
-denom_only (Row i) k e = absurd (differs 6 12 (i ∷ []) (k ∷ []) refl e)
-denom_only (Band i c b) k e = absurd (differs 7 12 (i ∷ c ∷ b ∷ []) (k ∷ []) refl e)
-denom_only (Weight i c p) k e = absurd (differs 8 12 (i ∷ c ∷ p ∷ []) (k ∷ []) refl e)
-denom_only (Denom i) k e = ap (λ (l : List ℕ). Denom (get_or l 1 0)) e
+pub denom_only : (a : Expanded) (k : ℕ) → reply_of a ≡ 12 ∷ k ∷ [] → a ≡ Err (Denom k)
+denom_only (Ok u) k e = absurd (differs 0 12 [] (k ∷ []) refl e)
+denom_only (Err Lent) k e = absurd (differs 1 12 [] (k ∷ []) refl e)
+denom_only (Err (Row i)) k e = absurd (differs 6 12 (i ∷ []) (k ∷ []) refl e)
+denom_only (Err (Band i c b)) k e = absurd (differs 7 12 (i ∷ c ∷ b ∷ []) (k ∷ []) refl e)
+denom_only (Err (Weight i c p)) k e = absurd (differs 8 12 (i ∷ c ∷ p ∷ []) (k ∷ []) refl e)
+denom_only (Err (Denom i)) k e = ap (λ (l : List ℕ). Err (Denom (get_or l 1 0))) e
 
 -- of a call for JPEG values
-pub jpeg_done : (r : Jpeg) → jpeg_numbers r ≡ 0 ∷ [] → r ≡ jpeg.Done
-jpeg_done jpeg.Done e = refl
-jpeg_done jpeg.Lent e = absurd (other 0 [] [] e)
-jpeg_done (jpeg.Row k) e = absurd (other 5 (k ∷ []) [] e)
-jpeg_done jpeg.None e = absurd (other 10 [] [] e)
+pub jpeg_done : (r : Jpeg) → jpeg_numbers r ≡ 0 ∷ [] → r ≡ Ok tt
+jpeg_done (Ok u) e = refl
+jpeg_done (Err jpeg.Lent) e = absurd (other 0 [] [] e)
+jpeg_done (Err (jpeg.Row k)) e = absurd (other 5 (k ∷ []) [] e)
+jpeg_done (Err jpeg.None) e = absurd (other 10 [] [] e)
 
 -- of reading, with the next bit
 pub read_done : (r : Reading) (q : ℕ) → read_reply r ≡ 0 ∷ q ∷ [] → r ≡ Ok (stop.Done q)
