@@ -1,6 +1,7 @@
 -- `params::read::read_entry` meets its contract: a mode of three bits is below 8, and every mode's numbers fit a row (`shape_fits`). Assumes nothing.
 use mathlib.Core.Path.{sym, ap, ◌∙◌}
 use native.Mathlib.Omega.{arith}
+use borrow.Author.Rules.{rules}
 use mathlib.Core.List.{List}
 use Prim.Native.Nat.{ℕ}
 use lib.ListN.{set}
@@ -13,14 +14,14 @@ use Rattle.params.proofs.read.read_entry.Goals as goal
 pub returns-in_err-found : goal.returns-in_err-found
 returns-in_err-found c =
     let p = err_from_is_err_and c.from_residual.result c.from_residual.ensures.1 in
-    rw (p.1, p.2) (sym (entry_short _ _ _ _ (sym c.in_err-found.ensures)))
+    rw (p.1, p.2) (sym (entry_short _ _ _ _ (search rules)))
 
 pub returns-then-not-mode_allowed : goal.returns-then-not-mode_allowed
 returns-then-not-mode_allowed c =
-    sym (entry_mode _ _ _ _ (sym c.in_ok-found.ensures) (rw c.from-mode.ensures at (sym c.mode_allowed.ensures ∙ c.if-not-mode_allowed.true)))
+    sym (entry_mode _ _ _ c.in_ok-found.found (search rules) (rw c.from-mode.ensures at (sym c.mode_allowed.ensures ∙ c.if-not-mode_allowed.true)))
 
 pub bounds-mode : goal.bounds-mode
-bounds-mode c = omega (arith, c.from-mode.ensures, value_lt _ _ 3 _ (sym c.in_ok-found.ensures))
+bounds-mode c = omega (arith, c.from-mode.ensures, value_lt c.args.bytes.now c.args.bit 3 c.in_ok-found.found (search rules))
 
 pub returns-in_err-then : goal.returns-in_err-then
 returns-in_err-then c =
@@ -33,10 +34,10 @@ returns-in_err-then c =
     (sym (lists_fault b (lists f.value) 1 x c.read_numbers.new.row)
     ∙ ap (band_lists b (lists f.value) 1)
     (c.in_err-then.ensures.row_after ∙ ap (λ (k : ℕ). numbers b (fixed k) (on f.next 3 (set c.args.row.now 0 f.value))) m ∙ ap (λ (w : List ℕ). numbers b (fixed f.value) (on f.next 3 (set w 0 f.value))) c.requires)
-    ∙ sym (entry_on _ _ _ f (sym c.in_ok-found.ensures) (rw m at (sym c.mode_allowed.ensures ∙ c.if-not-mode_allowed.false))))
+    ∙ sym (entry_on _ _ _ f (search rules) (rw m at (sym c.mode_allowed.ensures ∙ c.if-not-mode_allowed.false))))
 
 pub bounds-mode-2 : goal.bounds-mode-2
-bounds-mode-2 c = omega (arith, c.from-mode.ensures, value_lt _ _ 3 _ (sym c.in_ok-found.ensures))
+bounds-mode-2 c = omega (arith, c.from-mode.ensures, value_lt c.args.bytes.now c.args.bit 3 c.in_ok-found.found (search rules))
 
 pub returns : goal.returns
 returns c =
@@ -48,4 +49,4 @@ returns c =
     ∙ ap (λ (k : ℕ). band_lists b (lists k) 1 (on then.bit then.slot c.read_numbers.new.row)) m
     ∙ ap (band_lists b (lists f.value) 1)
     (c.in_ok-then.ensures.row_after ∙ ap (λ (k : ℕ). numbers b (fixed k) (on f.next 3 (set c.args.row.now 0 f.value))) m ∙ ap (λ (w : List ℕ). numbers b (fixed f.value) (on f.next 3 (set w 0 f.value))) c.requires)
-    ∙ sym (entry_on _ _ _ f (sym c.in_ok-found.ensures) (rw m at (sym c.mode_allowed.ensures ∙ c.if-not-mode_allowed.false)))
+    ∙ sym (entry_on _ _ _ f (search rules) (rw m at (sym c.mode_allowed.ensures ∙ c.if-not-mode_allowed.false)))

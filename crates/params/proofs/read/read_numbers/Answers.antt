@@ -17,7 +17,7 @@ loop-i-preserved c =
     let s : slot + (l.i + 1) ≡ slot + l.i + 1 = omega arith in
     numbers_step _ c.args.n l.i (on l.bit (slot + l.i) l.row) (on f.next (slot + (l.i + 1)) (set l.row (slot + l.i) f.value)) _ (search rules)
     (ap (λ (k : ℕ). on f.next k (set l.row (slot + l.i) f.value)) s
-    ∙ sym (number_on _ _ _ _ f (sym c.in_ok-found.ensures) c.if-value-eq31.false))
+    ∙ sym (number_on _ _ _ _ f (search rules) c.if-value-eq31.false))
     l.invariant
 
 pub returns-in_err-found-clause-row_after : goal.returns-in_err-found-clause-row_after
@@ -28,7 +28,7 @@ returns-in_err-found-clause-row_after c =
     let p = err_from_is_err_and c.from_residual.result c.from_residual.ensures.1 in
     rw (p.1, p.2)
     (sym (numbers_short _ (n - (l.i + 1)) x.bit x.lacks)
-    ∙ numbers_step _ n l.i (on l.bit (c.args.place.slot + l.i) l.row) (short x.bit x.lacks) _ (search rules) (sym (number_short _ _ _ _ x (sym c.in_err-found.ensures))) l.invariant)
+    ∙ numbers_step _ n l.i (on l.bit (c.args.place.slot + l.i) l.row) (short x.bit x.lacks) _ (search rules) (sym (number_short _ _ _ _ x (search rules))) l.invariant)
 
 pub returns-then-value-eq31-clause-row_after : goal.returns-then-value-eq31-clause-row_after
 returns-then-value-eq31-clause-row_after c =
@@ -36,7 +36,7 @@ returns-then-value-eq31-clause-row_after c =
     let n = c.args.n in
     sym (numbers_float _ (n - (l.i + 1)) l.bit)
     ∙ numbers_step _ n l.i (on l.bit (c.args.place.slot + l.i) l.row) (float l.bit) _ (search rules)
-    (sym (number_float _ _ _ _ _ (sym c.in_ok-found.ensures) c.if-value-eq31.true))
+    (sym (number_float _ _ _ _ c.in_ok-found.found (search rules) c.if-value-eq31.true))
     l.invariant
 
 pub returns-clause-row_after : goal.returns-clause-row_after
