@@ -7,18 +7,7 @@ use std::io::Write;
 
 // Whether rows were written to the end of the header or to a raw kind.
 fn has_rows(r: Reading) -> bool {
-    match r {
-        Reading::Done { next: _ } => true,
-        Reading::Lent => false,
-        Reading::Short {
-            kind: _,
-            bit: _,
-            lacks: _,
-        } => false,
-        Reading::Mode { kind: _, bit: _ } => false,
-        Reading::Float { kind: _, bit: _ } => false,
-        Reading::Raw { kind: _, next: _ } => true,
-    }
+    matches!(r, Reading::Done { .. } | Reading::Raw { .. })
 }
 
 fn main(rt: HostRuntime) -> io::Result<()> {
@@ -30,12 +19,8 @@ fn main(rt: HostRuntime) -> io::Result<()> {
     let r = params::read_header(&header[..n], 0, 0, &mut rows);
     show::reply_line(&mut out, r)?;
     if has_rows(r) {
-        let mut kind = 0;
-        while kind < 17 {
-            let at = kind * 128;
-            let end = at + 128;
-            show::row(&mut out, kind, &rows[at..end])?;
-            kind += 1;
+        for (kind, row) in rows.chunks(128).enumerate() {
+            show::row(&mut out, kind, row)?;
         }
     }
     out.flush()

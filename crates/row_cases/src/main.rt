@@ -5,7 +5,7 @@
 #![tactic(auto)]
 
 use record::{Taken, Written};
-use show::field;
+use show::Case;
 use std::io;
 use std::io::Write;
 
@@ -74,7 +74,7 @@ fn write<W: Write>(
     samples: &[i32],
     buffer: &mut [u8],
 ) -> io::Result<()> {
-    text::clear(buffer);
+    buffer.fill(b'Z');
     let r = record::write_record(rows, samples, buffer);
     show_written(out, r, buffer)
 }
@@ -103,7 +103,7 @@ fn read<W: Write>(
     rows: &mut [u16],
     part: &mut [i32],
 ) -> io::Result<()> {
-    show::fill_samples(part, 77, 0, 0);
+    part.fill(77);
     let r = record::read_record(source, rows, part);
     show_taken(out, r)?;
     rows::show_rows(out, rows)?;
@@ -112,63 +112,42 @@ fn read<W: Write>(
 
 fn write_rows<W: Write>(
     out: &mut W,
-    s: &[u8],
-    at: usize,
+    case: Case,
     part: &[i32],
     buffer: &mut [u8],
 ) -> io::Result<()> {
-    let rows = show::rows_listed(s, at, 8);
+    let rows = case.rows_listed(8);
     write(
         out,
-        show::first_u16(&rows, field(s, at, 7)),
+        show::first(&rows, case.field(7)),
         part,
-        text::first(buffer, field(s, at, 12)),
+        show::first_mut(buffer, case.field(12)),
     )
 }
 
 fn write_case<W: Write>(
     out: &mut W,
-    s: &[u8],
-    at: usize,
+    case: Case,
     part: &mut [i32],
     buffer: &mut [u8],
 ) -> io::Result<()> {
-    show::fill_by_rule(part, s, at);
-    write_rows(out, s, at, show::first_i32(part, field(s, at, 3)), buffer)
+    case.fill_by_rule(part);
+    write_rows(out, case, show::first(part, case.field(3)), buffer)
 }
 
-fn read_case<W: Write>(
-    out: &mut W,
-    s: &[u8],
-    at: usize,
-    source: &[u8],
-    part: &mut [i32],
-) -> io::Result<()> {
+fn read_case<W: Write>(out: &mut W, case: Case, source: &[u8], part: &mut [i32]) -> io::Result<()> {
     let mut rows = [0xabcdu16; 2304];
     read(
         out,
         source,
-        rows::first(&mut rows, field(s, at, 7)),
-        samples::first(part, field(s, at, 3)),
+        show::first_mut(&mut rows, case.field(7)),
+        show::first_mut(part, case.field(3)),
     )
 }
 
 // The record that a case before left in the buffer, as long as the case says.
-fn back_case<W: Write>(
-    out: &mut W,
-    s: &[u8],
-    at: usize,
-    part: &mut [i32],
-    buffer: &[u8],
-) -> io::Result<()> {
-    read_case(out, s, at, show::first(buffer, field(s, at, 11)), part)
-}
-
-// The bit that a case starts at, in two words.
-fn start_bit(s: &[u8], at: usize) -> u64 {
-    let low = show::word(show::rest(s, at), 13) as u64;
-    let high = show::word(show::rest(s, at), 14) as u64;
-    high * 4294967296 + low
+fn back_case<W: Write>(out: &mut W, case: Case, part: &mut [i32], buffer: &[u8]) -> io::Result<()> {
+    read_case(out, case, show::first(buffer, case.field(11)), part)
 }
 
 // Reads a header into rows of abcd.
@@ -183,14 +162,15 @@ fn read_header<W: Write>(
     rows::show_rows(out, rows)
 }
 
-fn header_case<W: Write>(out: &mut W, s: &[u8], at: usize) -> io::Result<()> {
+// The bit that a case starts at is in two words.
+fn header_case<W: Write>(out: &mut W, case: Case) -> io::Result<()> {
     let mut rows = [0xabcdu16; 2304];
     read_header(
         out,
-        show::named(s, at, 10),
-        start_bit(s, at),
-        field(s, at, 15),
-        rows::first(&mut rows, field(s, at, 7)),
+        case.named(10),
+        case.number(13),
+        case.field(15),
+        show::first_mut(&mut rows, case.field(7)),
     )
 }
 
@@ -200,68 +180,48 @@ fn reply_case<W: Write>(out: &mut W, header: &[u8]) -> io::Result<()> {
     show::reply_line(out, params::read_header(header, 0, 0, &mut rows))
 }
 
-// The calls that lend neither samples nor a buffer.
-fn header_call<W: Write>(out: &mut W, s: &[u8], at: usize) -> io::Result<()> {
-    let c = field(s, at, 2);
-    if c == 3 {
-        return header_case(out, s, at);
+// Which call a case names, by its number; each other number is that of the last.
+enum Which {
+    Write,
+    Read,
+    Back,
+    Header,
+    Quantlist,
+    Reply,
+}
+
+impl From<usize> for Which {
+    fn from(n: usize) -> Which {
+        match n {
+            0 => Which::Write,
+            1 => Which::Read,
+            2 => Which::Back,
+            3 => Which::Header,
+            4 => Which::Quantlist,
+            _ => Which::Reply,
+        }
     }
-    if c == 4 {
-        return show_record::quantlist(out, show::named(s, at, 10));
-    }
-    reply_case(out, show::named(s, at, 10))
 }
 
 // The call that a case names.
-fn call<W: Write>(
-    out: &mut W,
-    s: &[u8],
-    at: usize,
-    part: &mut [i32],
-    buffer: &mut [u8],
-) -> io::Result<()> {
-    let c = field(s, at, 2);
-    if c == 0 {
-        return write_case(out, s, at, part, buffer);
+fn call<W: Write>(out: &mut W, case: Case, part: &mut [i32], buffer: &mut [u8]) -> io::Result<()> {
+    match Which::from(case.field(2)) {
+        Which::Write => write_case(out, case, part, buffer),
+        Which::Read => read_case(out, case, case.named(10), part),
+        Which::Back => back_case(out, case, part, buffer),
+        Which::Header => header_case(out, case),
+        Which::Quantlist => show_record::quantlist(out, case.named(10)),
+        Which::Reply => reply_case(out, case.named(10)),
     }
-    if c == 1 {
-        return read_case(out, s, at, show::named(s, at, 10), part);
-    }
-    if c == 2 {
-        return back_case(out, s, at, part, buffer);
-    }
-    header_call(out, s, at)
-}
-
-// A case by its number, from 1 on: its name, and what it gives.
-fn run<W: Write>(
-    out: &mut W,
-    s: &[u8],
-    i: usize,
-    part: &mut [i32],
-    buffer: &mut [u8],
-) -> io::Result<()> {
-    let at = show::word(s, i) as usize;
-    show::text(out, show::named(s, at, 0))?;
-    show::end(out)?;
-    call(out, s, at, part, buffer)
-}
-
-fn run_all<W: Write>(out: &mut W, s: &[u8], part: &mut [i32], buffer: &mut [u8]) -> io::Result<()> {
-    let n = show::word(s, 0) as usize;
-    let mut i = 0;
-    while i < n {
-        i += 1;
-        run(out, s, i, part, buffer)?;
-    }
-    Ok(())
 }
 
 // With samples, and a buffer that is long enough for each case.
 fn with_buffer<W: Write>(out: &mut W, s: &[u8]) -> io::Result<()> {
     let mut part = [0i32; 394752];
     let mut buffer = [0u8; 4500000];
-    run_all(out, s, &mut part, &mut buffer)
+    show::run_cases(out, s, |out, case| {
+        call(out, case, &mut part, &mut buffer)
+    })
 }
 
 fn main(rt: HostRuntime) -> io::Result<()> {

@@ -1,25 +1,10 @@
-// The rows that a case lends, and what a reading left of those that all held abcd before.
+// What a reading left of rows that all held abcd before.
 use std::io;
 use std::io::Write;
 
-// The first n numbers, or none where there are fewer.
-pub(crate) fn first<'a>(rows: &'a mut [u16], n: usize) -> &'a mut [u16] {
-    if rows.len() < n {
-        return &mut rows[..0];
-    }
-    &mut rows[0..n]
-}
-
 // Whether each number is abcd.
 fn untouched(rows: &[u16]) -> bool {
-    let mut i = 0;
-    while i < rows.len() {
-        if rows[i] != 0xabcd {
-            return false;
-        }
-        i += 1;
-    }
-    true
+    rows.iter().all(|x| *x == 0xabcd)
 }
 
 // A row that was written.
@@ -31,14 +16,8 @@ fn touched_row<W: Write>(out: &mut W, kind: usize, numbers: &[u16]) -> io::Resul
 }
 
 fn touched_rows<W: Write>(out: &mut W, rows: &[u16]) -> io::Result<()> {
-    let mut kind = 0;
-    while kind < 17 {
-        let at = kind * 128;
-        let end = at + 128;
-        if end <= rows.len() {
-            touched_row(out, kind, &rows[at..end])?;
-        }
-        kind += 1;
+    for (kind, numbers) in rows.chunks_exact(128).take(17).enumerate() {
+        touched_row(out, kind, numbers)?;
     }
     Ok(())
 }

@@ -17,6 +17,10 @@ word_at s j =
 abbrev pub field_at : List ℕ → ℕ → ℕ → ℕ
 field_at s at j = word_at (drop at s) j
 
+-- the number of a case's word j and the next, the low one first
+abbrev pub number_at : List ℕ → ℕ → ℕ → ℕ
+number_at s at j = field_at s at j + 4294967296 * field_at s at (j + 1)
+
 -- the bytes that a case names by word j, where they begin, and the next, how many there are
 abbrev pub named_at : List ℕ → ℕ → ℕ → List ℕ
 named_at s at j = first_of (field_at s at (j + 1)) (drop (field_at s at j) s)

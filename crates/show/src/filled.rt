@@ -17,14 +17,12 @@ fn put(rows: &mut [u16], both: u32)
 }
 
 // The numbers of rows that the list has, each with its place in one word.
+#[tactic(auto, using(crate::proofs::Laws::stored_more), unfolding(crate::specs::Filled::stored))]
 pub(crate) fn fill_rows(list: &[u8], rows: &mut [u16])
     ensures { rows.new ≡ rows_with list.now rows.old }
 {
-    let n = list.len() / 4;
-    let mut j = 0;
-    while j < n {
+    for j in 0..list.len() / 4 {
         put(rows, word(list, j));
-        j += 1;
     }
 }
 
@@ -32,32 +30,28 @@ pub(crate) fn fill_rows(list: &[u8], rows: &mut [u16])
 pub fn signed(bits: u32) -> i32
     ensures { result ≡ to_z w32 bits }
 {
-    if bits < 2147483648 {
-        return bits as i32;
-    }
-    let v = (4294967295 - bits) as i32;
-    !v
+    bits.cast_signed()
 }
 
 // The rest after one more step.
+#[tactic(auto, using(crate::proofs::Laws::modulo_some, crate::proofs::Laws::modulo_none))]
 fn stepped(rest: u32, step: u32, modulus: u32) -> u32
     ensures { result ≡ modulo (rest + step) modulus }
 {
     if modulus > 0 {
-        return (((rest as u64) + (step as u64)) % (modulus as u64)) as u32;
+        return ((u64::from(rest) + u64::from(step)) % u64::from(modulus)) as u32;
     }
     0
 }
 
 // Sample p is base + (p x step mod modulus), by 2^32; with modulus 0 all are the base.
+#[tactic(auto, using(crate::proofs::Laws::modulo_start, crate::proofs::Laws::rest_more, crate::proofs::Laws::sample_more), unfolding(crate::specs::Filled::stored))]
 pub fn fill_samples(samples: &mut [i32], base: u32, step: u32, modulus: u32)
     ensures { samples.new ≡ samples_by base step modulus samples.old }
 {
-    let mut p = 0;
     let mut rest: u32 = 0;
-    while p < samples.len() {
-        samples[p] = signed(base.wrapping_add(rest));
+    for sample in samples.iter_mut() {
+        *sample = signed(base.wrapping_add(rest));
         rest = stepped(rest, step, modulus);
-        p += 1;
     }
 }

@@ -4,7 +4,7 @@
 // it holds then holds more. Each function is proved safe and ending.
 #![tactic(auto)]
 
-ghost use Rattle.std.specs.Prelude.{◌≡◌, ◌<◌, ◌≤◌, ◌++◌, length, codes, decimal, false, OnOk};
+ghost use Rattle.std.specs.Prelude.{ℕ, ◌≢◌, slice_index, MatchOption, ◌≡◌, ◌<◌, ◌≤◌, ◌++◌, length, codes, decimal, false, OnOk};
 ghost use Rattle.std.specs.Fmt.{digits};
 ghost use Rattle.std.specs.Io.KnownBytes.{Appends};
 ghost use Rattle.show.specs.Written.{next_of, line_of, reply_of_two, reading_of, refused_of_two, refusal_of, used_of, item_of, row_of};
@@ -18,12 +18,14 @@ mod cases;
 mod filled;
 mod parts;
 mod stream;
+mod totals;
 mod words;
 
-pub use cases::{field, fill_by_rule, listed, named, rows_listed};
+pub use cases::{Case, run_cases};
 pub use filled::{fill_samples, signed};
-pub use parts::{first, first_i32, first_u16, rest};
+pub use parts::{first, first_mut, rest};
 pub use stream::read_full;
+pub use totals::total_by;
 pub use words::word;
 
 pub fn text<W: Write>(out: &mut W, bytes: &[u8]) -> io::Result<()>
@@ -136,18 +138,7 @@ pub fn kind<W: Write>(out: &mut W, kind: usize) -> io::Result<()>
 pub fn is_refused(r: Reading) -> bool
     ensures { result ≡ refused_is r }
 {
-    match r {
-        Reading::Done { next: _ } => false,
-        Reading::Lent => true,
-        Reading::Short {
-            kind: _,
-            bit: _,
-            lacks: _,
-        } => true,
-        Reading::Mode { kind: _, bit: _ } => true,
-        Reading::Float { kind: _, bit: _ } => true,
-        Reading::Raw { kind: _, next: _ } => true,
-    }
+    !matches!(r, Reading::Done { .. })
 }
 
 // A refused reading, a line for each number, and nothing of one that is done.
@@ -155,7 +146,7 @@ pub fn refused<W: Write>(out: &mut W, r: Reading) -> io::Result<()>
     ensures bytes { OnOk result (Appends (W.contents out.old) (W.contents out.new) (refusal_of r)) }
 {
     match r {
-        Reading::Done { next: _ } => Ok(()),
+        Reading::Done { .. } => Ok(()),
         Reading::Lent => refusal(out, 1),
         Reading::Short { kind, bit, lacks } => refused_short(out, kind, bit, lacks),
         Reading::Mode { kind, bit } => refused_at(out, 3, kind, bit),
@@ -179,25 +170,23 @@ fn refused_short<W: Write>(out: &mut W, no: usize, bit: u64, lacks: u64) -> io::
     line(out, b"lacks=", lacks)
 }
 
-fn wide(x: u16) -> u64
-    ensures { result ≡ x }
+// The place of the last number that is not 0.
+fn last(row: &[u16]) -> Option<usize>
+    ensures { MatchOption result ((k : ℕ) → k < length row.now → slice_index row.now k ≡ 0) (λ i. (i < length row.now) × (slice_index row.now i ≢ 0) × ((k : ℕ) → i < k → k < length row.now → slice_index row.now k ≡ 0)) }
 {
-    x as u64
+    row.iter().rposition(|x| *x != 0)
 }
 
 // Where the zeros at the end of a row begin, but never before its second number.
+#[tactic(auto, using(crate::proofs::RowLaws::used_some, crate::proofs::RowLaws::used_none))]
 fn used(row: &[u16]) -> usize
     ensures used { result ≡ used_of row.now (length row.now) }
     ensures within { result ≤ length row.now }
 {
-    let mut n = row.len();
-    while n > 1 {
-        if row[n - 1] != 0 {
-            return n;
-        }
-        n -= 1;
+    match last(row) {
+        Some(i) => i + 1,
+        None => row.len().min(1),
     }
-    n
 }
 
 // What stands before a row's numbers.
@@ -212,8 +201,7 @@ fn row_name<W: Write>(out: &mut W, kind: usize) -> io::Result<()>
 fn hexadecimal<W: Write>(out: &mut W, x: u16) -> io::Result<()>
     ensures bytes { OnOk result (Appends (W.contents out.old) (W.contents out.new) (digits 16 false x)) }
 {
-    let number = wide(x);
-    write!(out, "{number:x}")
+    write!(out, "{x:x}")
 }
 
 // A number of a row, a comma before each but the first.
@@ -228,15 +216,13 @@ fn item<W: Write>(out: &mut W, i: usize, x: u16) -> io::Result<()>
 }
 
 // The numbers of a row in hexadecimal, commas between them, without the zeros at its end.
+#[tactic(auto, using(crate::proofs::RowLaws::items_none, crate::proofs::RowLaws::items_more))]
 pub fn row<W: Write>(out: &mut W, kind: usize, numbers: &[u16]) -> io::Result<()>
     ensures bytes { OnOk result (Appends (W.contents out.old) (W.contents out.new) (row_of kind numbers.now)) }
 {
     row_name(out, kind)?;
-    let n = used(numbers);
-    let mut i = 0;
-    while i < n {
-        item(out, i, numbers[i])?;
-        i += 1;
+    for (i, x) in numbers[..used(numbers)].iter().enumerate() {
+        item(out, i, *x)?;
     }
     end(out)
 }

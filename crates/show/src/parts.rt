@@ -12,8 +12,9 @@ pub fn rest<'a>(s: &'a [u8], at: usize) -> &'a [u8]
     &s[at..]
 }
 
-// The first n bytes, or none where there are fewer.
-pub fn first<'a>(s: &'a [u8], n: usize) -> &'a [u8]
+// The first n items, or none where there are fewer.
+#[tactic(auto, using(crate::proofs::Laws::first_none, crate::proofs::Laws::first_some))]
+pub fn first<T>(s: &[T], n: usize) -> &[T]
     ensures { result.now ≡ first_of n s.now }
 {
     if s.len() < n {
@@ -22,22 +23,13 @@ pub fn first<'a>(s: &'a [u8], n: usize) -> &'a [u8]
     &s[0..n]
 }
 
-// The first n numbers, or none where there are fewer.
-pub fn first_u16<'a>(numbers: &'a [u16], n: usize) -> &'a [u16]
-    ensures { result.now ≡ first_of n numbers.now }
+// The first n items to be written, or none where there are fewer. What the slice ends as isn't said, as of std's `get_mut`.
+#[tactic(auto, using(crate::proofs::Laws::first_none, crate::proofs::Laws::first_some))]
+pub fn first_mut<T>(part: &mut [T], n: usize) -> &mut [T]
+    ensures { result.now ≡ first_of n part.old }
 {
-    if numbers.len() < n {
-        return &numbers[..0];
+    if part.len() < n {
+        return &mut part[..0];
     }
-    &numbers[0..n]
-}
-
-// The first n samples, or none where there are fewer.
-pub fn first_i32<'a>(samples: &'a [i32], n: usize) -> &'a [i32]
-    ensures { result.now ≡ first_of n samples.now }
-{
-    if samples.len() < n {
-        return &samples[..0];
-    }
-    &samples[0..n]
+    &mut part[0..n]
 }

@@ -11,9 +11,7 @@ fn show_rows<W: Write>(out: &mut W, rows: &[u16]) -> io::Result<()> {
     let mut text = [0u8; 8192];
     match record::write_record(rows, &[], &mut text) {
         Written::Done { length } => show::text(out, show::first(&text, length)),
-        Written::Lent => Ok(()),
-        Written::Row { kind: _ } => Ok(()),
-        Written::Room { length: _ } => Ok(()),
+        Written::Lent | Written::Row { .. } | Written::Room { .. } => Ok(()),
     }
 }
 

@@ -6,21 +6,24 @@ use std::io;
 use std::io::Write;
 use transform::Kind;
 
+// What the line of a part says.
+#[derive(Clone, Copy)]
+enum Line {
+    Key,
+    Summary,
+}
+
 // The weights of a part, commas between them.
 fn weights<W: Write>(out: &mut W, part: &[f32]) -> io::Result<()> {
-    let mut i = 0;
-    while i < part.len() {
-        item(out, i, part[i])?;
-        i += 1;
+    for (i, x) in part.iter().enumerate() {
+        item(out, i, *x)?;
     }
     Ok(())
 }
 
 // The first row of a part.
 fn key<W: Write>(out: &mut W, part: &[f32], width: usize) -> io::Result<()> {
-    if width <= part.len() {
-        weights(out, &part[..width])?;
-    }
+    weights(out, show::first(part, width))?;
     show::end(out)
 }
 
@@ -34,22 +37,20 @@ fn corner<W: Write>(out: &mut W, part: &[f32], sign: &[u8], i: usize) -> io::Res
 fn summary<W: Write>(out: &mut W, part: &[f32], width: usize) -> io::Result<()> {
     show::decimal(out, total(part))?;
     let n = part.len();
-    if 0 < width {
-        if width <= n {
-            corner(out, part, b" ", 0)?;
-            corner(out, part, b",", width - 1)?;
-            corner(out, part, b",", n - width)?;
-            corner(out, part, b",", n - 1)?;
-        }
+    if 0 < width && width <= n {
+        corner(out, part, b" ", 0)?;
+        corner(out, part, b",", width - 1)?;
+        corner(out, part, b",", n - width)?;
+        corner(out, part, b",", n - 1)?;
     }
     show::end(out)
 }
 
-fn show_part<W: Write>(out: &mut W, part: &[f32], width: usize, keys: bool) -> io::Result<()> {
-    if keys {
-        return key(out, part, width);
+fn show_part<W: Write>(out: &mut W, part: &[f32], width: usize, line: Line) -> io::Result<()> {
+    match line {
+        Line::Key => key(out, part, width),
+        Line::Summary => summary(out, part, width),
     }
-    summary(out, part, width)
 }
 
 fn show_channel<'a, W: Write>(
@@ -58,11 +59,11 @@ fn show_channel<'a, W: Write>(
     transposed: &'a [f32],
     kind: usize,
     channel: usize,
-    keys: bool,
+    line: Line,
 ) -> io::Result<()> {
     let k = Kind { no: kind };
     let part = dequant::lookup(straight, transposed, kind, channel, Order::Straight);
-    show_part(out, part, k.width(), keys)
+    show_part(out, part, k.width(), line)
 }
 
 fn show_kind<'a, W: Write>(
@@ -70,23 +71,22 @@ fn show_kind<'a, W: Write>(
     straight: &'a [f32],
     transposed: &'a [f32],
     kind: usize,
-    keys: bool,
+    line: Line,
 ) -> io::Result<()> {
-    show_channel(out, straight, transposed, kind, 0, keys)?;
-    show_channel(out, straight, transposed, kind, 1, keys)?;
-    show_channel(out, straight, transposed, kind, 2, keys)
+    for channel in 0..3 {
+        show_channel(out, straight, transposed, kind, channel, line)?;
+    }
+    Ok(())
 }
 
 fn show_kinds<'a, W: Write>(
     out: &mut W,
     straight: &'a [f32],
     transposed: &'a [f32],
-    keys: bool,
+    line: Line,
 ) -> io::Result<()> {
-    let mut kind = 0;
-    while kind < Kind::COUNT {
-        show_kind(out, straight, transposed, kind, keys)?;
-        kind += 1;
+    for kind in 0..Kind::COUNT {
+        show_kind(out, straight, transposed, kind, line)?;
     }
     Ok(())
 }
@@ -96,27 +96,27 @@ fn list<W: Write>(
     header: &[u8],
     straight: &mut [f32],
     transposed: &mut [f32],
-    keys: bool,
+    line: Line,
 ) -> io::Result<()> {
     if expand_header(out, header, straight, transposed)? {
-        show_kinds(out, straight, transposed, keys)?;
+        show_kinds(out, straight, transposed, line)?;
     }
     Ok(())
 }
 
 // With two arenas, each lent once: a goal after a second loan would count them.
-fn with_arenas<W: Write>(out: &mut W, header: &[u8], keys: bool) -> io::Result<()> {
+fn with_arenas<W: Write>(out: &mut W, header: &[u8], line: Line) -> io::Result<()> {
     let mut straight = [0.0f32; 394752];
     let mut transposed = [0.0f32; 394752];
-    list(out, header, &mut straight, &mut transposed, keys)
+    list(out, header, &mut straight, &mut transposed, line)
 }
 
 // The first row of each: eight hexadecimal digits for a weight, commas between them.
 pub fn keys<W: Write>(out: &mut W, header: &[u8]) -> io::Result<()> {
-    with_arenas(out, header, true)
+    with_arenas(out, header, Line::Key)
 }
 
 // Of each the 64-bit total of bits x (place + 1), and the bits of the four corner weights.
 pub fn summaries<W: Write>(out: &mut W, header: &[u8]) -> io::Result<()> {
-    with_arenas(out, header, false)
+    with_arenas(out, header, Line::Summary)
 }

@@ -12,21 +12,12 @@ use std::io::Write;
 pub fn total(part: &[f32]) -> u64
     ensures { result ≡ total_from 0 part.now }
 {
-    let mut running: u64 = 0;
-    let mut sum: u64 = 0;
-    let mut i = part.len();
-    while i > 0 {
-        i -= 1;
-        let bits = total::bits(part[i]) as u64;
-        running = running.wrapping_add(bits);
-        sum = sum.wrapping_add(running);
-    }
-    sum
+    show::total_by(part, |x| u64::from(total::bits(x)))
 }
 
 // A weight's bits, as eight hexadecimal digits.
 fn weight<W: Write>(out: &mut W, x: f32) -> io::Result<()> {
-    let bits = total::bits(x) as u64;
+    let bits = total::bits(x);
     write!(out, "{bits:08x}")
 }
 
@@ -40,10 +31,10 @@ pub fn item<W: Write>(out: &mut W, i: usize, x: f32) -> io::Result<()> {
 
 // The weight at a place, and nothing where there is none.
 pub fn weight_at<W: Write>(out: &mut W, part: &[f32], i: usize) -> io::Result<()> {
-    if i < part.len() {
-        weight(out, part[i])?;
+    match part.get(i) {
+        Some(x) => weight(out, *x),
+        None => Ok(()),
     }
-    Ok(())
 }
 
 fn place<W: Write>(out: &mut W, part: &[f32], i: usize) -> io::Result<()> {
@@ -55,11 +46,8 @@ fn place<W: Write>(out: &mut W, part: &[f32], i: usize) -> io::Result<()> {
 
 // The weights at the places of a list of words, each behind a comma.
 fn places<W: Write>(out: &mut W, part: &[f32], list: &[u8]) -> io::Result<()> {
-    let n = list.len() / 4;
-    let mut i = 0;
-    while i < n {
+    for i in 0..list.len() / 4 {
         place(out, part, show::word(list, i) as usize)?;
-        i += 1;
     }
     Ok(())
 }

@@ -1,0 +1,56 @@
+-- The total, from the last place on: each item's number is in the running sum once for each place up to its own. Assumes nothing.
+use Rattle.std.proofs.Common.{◌≡◌, ℕ, ◌+◌, ◌%◌, ◌^◌, List, [], ◌∷◌, ◌++◌, length, append-nil, append_assoc, refl, ap, ◌∙◌, sym, arith}
+use Rattle.std.specs.List.{push}
+use native.Mathlib.Nat.{add-mod}
+use Rattle.show.specs.Totals.{weighed_from, total_of}
+
+module _ {A : Type 0} (n : A → ℕ) where
+  -- the sum of the numbers
+  abbrev numbers_in : List A → ℕ
+  numbers_in [] = 0
+  numbers_in (x ∷ l) = n x + numbers_in l
+
+  -- a place further on, each number counts once more
+  further : (p : ℕ) (l : List A) → weighed_from n (p + 1) l ≡ weighed_from n p l + numbers_in l
+  unfolding weighed_from
+  further p [] = refl
+  further p (x ∷ l) = omega (arith, further (p + 1) l)
+
+  -- what the two sums are of some items
+  pub record Summed (l : List A) (running sum : ℕ) : Type 0 where
+    pub numbers : running ≡ numbers_in l % 2 ^ 64
+    pub total : sum ≡ total_of n l
+
+  -- none yet
+  summed_none : Summed [] 0 0
+  unfolding weighed_from total_of
+  summed_none = record { numbers = refl; total = refl }
+
+  -- one item more, before the others
+  summed_more : (x : A) (l : List A) (r s r' : ℕ) → Summed l r s → r' ≡ (r + n x) % 2 ^ 64 → Summed (x ∷ l) r' ((s + r') % 2 ^ 64)
+  unfolding weighed_from total_of
+  summed_more x l r s r' k e = record { numbers = b; total = rw (b, k.total) (sym (add-mod (weighed_from n 0 l) (numbers_in (x ∷ l)) (2 ^ 64)) ∙ ap (λ (m : ℕ). m % 2 ^ 64) (omega (arith, further 0 l))) }
+    where
+      b : r' ≡ numbers_in (x ∷ l) % 2 ^ 64
+      b = omega (arith, e, k.numbers)
+
+-- the items are those that are left and, behind them, those whose sums there are, whichever of some ways gives the numbers
+pub record Behind {A : Type 0} (Way : (A → ℕ) → Type 0) (items rest : List A) (running sum : ℕ) : Type 0 where
+  pub done : List A
+  pub split : items ≡ rest ++ done
+  pub summed : (n : A → ℕ) → Way n → Summed n done running sum
+
+pub behind_none : {A : Type 0} {Way : (A → ℕ) → Type 0} (items rest : List A) → rest ≡ items → Behind Way items rest 0 0
+behind_none items rest e = record { done = []; split = sym (append-nil rest ∙ e); summed = λ n w. summed_none n }
+
+pub behind_more : {A : Type 0} {Way : (A → ℕ) → Type 0} (items rest left : List A) (x : A) (r s b : ℕ) → Behind Way items rest r s → rest ≡ push left x → ((n : A → ℕ) → Way n → b ≡ n x)
+    → Behind Way items left ((r + b) % 2 ^ 64) ((s + (r + b) % 2 ^ 64) % 2 ^ 64)
+behind_more items rest left x r s b k e f = record {
+  done = x ∷ k.done;
+  split = k.split ∙ ap (λ l. l ++ k.done) e ∙ append_assoc left (x ∷ []) k.done;
+  summed = λ n w. summed_more n x k.done r s _ (k.summed n w) (ap (λ (m : ℕ). (r + m) % 2 ^ 64) (f n w));
+}
+
+pub behind_all : {A : Type 0} {Way : (A → ℕ) → Type 0} (items rest : List A) (r s : ℕ) → Behind Way items rest r s → length rest ≡ 0 → (n : A → ℕ) → Way n → s ≡ total_of n items
+behind_all items [] r s k h n w = (k.summed n w).total ∙ ap (λ l. total_of n l) (sym k.split)
+behind_all items (x ∷ rest) r s k h n w = absurd (omega arith)
