@@ -60,35 +60,21 @@ fn with_arenas<W: Write, F: FnOnce(&mut W, &mut [f32], &mut [f32]) -> io::Result
     )
 }
 
-// The reply of an expansion, and both arenas.
-fn show_expanded<W: Write>(
+// Expands into two arenas, and shows the reply and both.
+fn expand_case<W: Write, F: FnOnce(&[u16], &[i32], &mut [f32], &mut [f32]) -> Expanded>(
     out: &mut W,
     case: Case,
-    r: Expanded,
-    straight: &[f32],
-    transposed: &[f32],
-) -> io::Result<()> {
-    show_reply(out, r)?;
-    show_arenas(out, case.listed(10), straight, transposed)
-}
-
-// Expands the set.
-fn expand_case<W: Write>(out: &mut W, case: Case, samples: &[i32]) -> io::Result<()> {
+    expand: F,
+) -> io::Result<()>
+    requires { F.IsAlwaysCallable expand }
+{
     let rows = case.rows_listed(12);
     let part = show::first(&rows, case.field(14));
-    with_arenas(out, case, |out, straight, transposed| {
-        let r = dequant::expand(part, samples, straight, transposed);
-        show_expanded(out, case, r, straight, transposed)
-    })
-}
-
-// Expands the set's one kind.
-fn kind_case<W: Write>(out: &mut W, case: Case, samples: &[i32]) -> io::Result<()> {
-    let rows = case.rows_listed(12);
-    let part = show::first(&rows, case.field(14));
-    with_arenas(out, case, |out, straight, transposed| {
-        let r = matrix::expand_kind(case.field(7), part, samples, straight, transposed);
-        show_expanded(out, case, r, straight, transposed)
+    with_samples(out, case, |out, samples| {
+        with_arenas(out, case, |out, straight, transposed| {
+            show_reply(out, expand(part, samples, straight, transposed))?;
+            show_arenas(out, case.listed(10), straight, transposed)
+        })
     })
 }
 
@@ -137,23 +123,25 @@ fn lookup_case<W: Write>(out: &mut W, case: Case) -> io::Result<()> {
     })
 }
 
-fn jpeg_case<W: Write>(out: &mut W, case: Case, samples: &[i32]) -> io::Result<()> {
+fn jpeg_case<W: Write>(out: &mut W, case: Case) -> io::Result<()> {
     let rows = case.rows_listed(12);
-    show_jpeg(
-        out,
-        show::first(&rows, case.field(14)),
-        samples,
-        case.field(8),
-    )
+    let part = show::first(&rows, case.field(14));
+    with_samples(out, case, |out, samples| {
+        show_jpeg(out, part, samples, case.field(8))
+    })
 }
 
 // The call that a case names.
 pub(crate) fn call<W: Write>(out: &mut W, case: Case) -> io::Result<()> {
     match Which::from(case.field(2)) {
-        Which::Expand => with_samples(out, case, |out, samples| expand_case(out, case, samples)),
+        Which::Expand => expand_case(out, case, |rows, samples, straight, transposed| {
+            dequant::expand(rows, samples, straight, transposed)
+        }),
         Which::Lookup => lookup_case(out, case),
-        Which::Jpeg => with_samples(out, case, |out, samples| jpeg_case(out, case, samples)),
-        Which::ExpandKind => with_samples(out, case, |out, samples| kind_case(out, case, samples)),
+        Which::Jpeg => jpeg_case(out, case),
+        Which::ExpandKind => expand_case(out, case, |rows, samples, straight, transposed| {
+            matrix::expand_kind(case.field(7), rows, samples, straight, transposed)
+        }),
         Which::Keys => show_set::keys(out, case.named(19)),
         Which::Summaries => show_set::summaries(out, case.named(19)),
     }
