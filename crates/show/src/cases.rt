@@ -21,8 +21,7 @@ pub struct Case<'a> {
 impl<'a> Case<'a> {
     // The case that begins at byte `at`.
     pub fn new(bytes: &'a [u8], at: usize) -> Case<'a>
-        ensures bytes { result.bytes.now ≡ bytes.now }
-        ensures at { result.at ≡ at }
+        ensures { result ≡ record { bytes = bytes.entry; at = at } }
     {
         Case { bytes, at }
     }
