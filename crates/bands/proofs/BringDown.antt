@@ -174,6 +174,10 @@ module _ (P Q top N n rem root left : ℕ) (p : P ≡ 4 * Q) (q : 0 < Q) (wide :
       go true h g = turn_one (h tt)
       go false h g = turn_zero (g tt)
 
+-- of n turns i are done, and one more
+pub fewer : (P top N n i rem root left : ℕ) → Down P top N (n - i - 1) rem root left → Down P top N (n - (i + 1)) rem root left
+fewer P top N n i rem root left d = let e : n - i - 1 ≡ n - (i + 1) = omega arith in subst (λ (k : ℕ). Down P top N k rem root left) e d
+
 -- ---- one root of 64 digits, from its start to its end
 pub down_start : (x : ℕ) → x < 2 ^ 64 → Down (2 ^ 64) 32 x 32 0 0 x
 down_start x h = record { same = scale x; fits = h; less = zero-le; room = lit≤ tt }

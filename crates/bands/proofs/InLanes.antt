@@ -104,14 +104,14 @@ module _ (root₀ rem₀ left₀ root rem left : List ℕ) (i r o l : ℕ) (I : 
 pub record Coming (n : ℕ) (root₀ rem₀ left₀ root rem left : List ℕ) (k : ℕ) : Type 0 where
   pub lanes : (N : ℕ → ℕ) → Lanes N n root₀ rem₀ left₀ → Lanes N k root rem left
 
-pub coming_none : (n : ℕ) (root rem left : List ℕ) → Coming n root rem left root rem left n
-coming_none n root rem left = record { lanes = λ N o. o }
+pub coming_none : (n : ℕ) (root rem left : List ℕ) → Coming n root rem left root rem left (n - 0)
+coming_none n root rem left = record { lanes = λ N o. let e : n ≡ n - 0 = omega arith in subst (λ (k : ℕ). Lanes N k root rem left) e o }
 
 pub coming_turning : (n : ℕ) (root₀ rem₀ left₀ root rem left : List ℕ) (k : ℕ) → 0 < k → Begun n root₀ rem₀ left₀ → Coming n root₀ rem₀ left₀ root rem left k → Turning root rem left
 coming_turning n root₀ rem₀ left₀ root rem left k K b t = record { n = k; more = K; begun = record { of = b.of; lanes = t.lanes b.of b.lanes } }
 
-pub coming_more : (n : ℕ) (root₀ rem₀ left₀ root rem left root' rem' left' : List ℕ) (k : ℕ) → 0 < k → Coming n root₀ rem₀ left₀ root rem left k → Turned root rem left root' rem' left' → Coming n root₀ rem₀ left₀ root' rem' left' (k - 1)
-coming_more n root₀ rem₀ left₀ root rem left root' rem' left' k K t u = record { lanes = λ N o. u.lanes N k K (t.lanes N o) }
+pub coming_more : (n : ℕ) (root₀ rem₀ left₀ root rem left root' rem' left' : List ℕ) (i : ℕ) → i < n → Coming n root₀ rem₀ left₀ root rem left (n - i) → Turned root rem left root' rem' left' → Coming n root₀ rem₀ left₀ root' rem' left' (n - (i + 1))
+coming_more n root₀ rem₀ left₀ root rem left root' rem' left' i I t u = record { lanes = λ N o. let e : n - i - 1 ≡ n - (i + 1) = omega arith in subst (λ (k : ℕ). Lanes N k root' rem' left') e (u.lanes N (n - i) (omega arith) (t.lanes N o)) }
 
 pub coming_all : (n : ℕ) (root₀ rem₀ left₀ root rem left : List ℕ) (k : ℕ) → k ≤ 0 → Coming n root₀ rem₀ left₀ root rem left k → Ended n root₀ rem₀ left₀ root rem
 coming_all n root₀ rem₀ left₀ root rem left k z t = record {

@@ -5,6 +5,7 @@ ghost use Rattle.bands.specs.Root.{whole_root};
 ghost use Rattle.bands.specs.Eights.{Near, Nearly, Less, Next};
 
 use crate::lanes::{Eight, digit, digits_eight};
+use std::array;
 
 // The roots that follow number j of eight chains, but for their last three digits. Those that come down are the digits of last,
 // without its first, and zeros behind them.
@@ -13,15 +14,8 @@ fn begun(last: [u32; 8], j: usize) -> Eight
     ensures { Nearly last result.root result.rem }
 {
     let s = 30 - (j << 1);
-    let mut rem = [0u32; 8];
-    let mut left = [0u32; 8];
-    let mut i: usize = 0;
-    while i < 8 {
-        let w = last[i] << 1;
-        rem[i] = w >> s;
-        left[i] = w << (32 - s);
-        i += 1;
-    }
+    let rem = last.map(|r| (r << 1) >> s);
+    let left = last.map(|r| (r << 1) << (32 - s));
     digits_eight([2 << j; 8], rem, left, 27 - j)
 }
 
@@ -53,15 +47,7 @@ fn by_digits(last: [u32; 8], j: usize) -> [u32; 8]
     ensures { Next last result }
 {
     let most = begun(last, j);
-    let root = most.root;
-    let rem = most.rem;
-    let mut all = [0u32; 8];
-    let mut i: usize = 0;
-    while i < 8 {
-        all[i] = last_three(root[i], rem[i]);
-        i += 1;
-    }
-    all
+    array::from_fn(|i| last_three(most.root[i], most.rem[i]))
 }
 
 // The next number of a chain near its end: of 2^31 + k, k below 2^16, it is 2^31 + (k - 1) / 2, downward.
@@ -82,13 +68,7 @@ fn by_halves(last: [u32; 8]) -> [u32; 8]
     requires { Near 15 last }
     ensures { Next last result }
 {
-    let mut all = [0u32; 8];
-    let mut i: usize = 0;
-    while i < 8 {
-        all[i] = half(last[i]);
-        i += 1;
-    }
-    all
+    last.map(half)
 }
 
 // The numbers that follow number j of eight chains.

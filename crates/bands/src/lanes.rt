@@ -29,14 +29,12 @@ fn turn_eight(root: &mut [u32; 8], rem: &mut [u32; 8], left: &mut [u32; 8])
     requires { Turning root.old rem.old left.old }
     ensures { Turned root.old rem.old left.old root.new rem.new left.new }
 {
-    let mut i: usize = 0;
-    while i < 8 {
+    for i in 0..8 {
         let a = (rem[i] << 2) | (left[i] >> 30);
         let t = root[i] << 2;
         rem[i] = over(t, a);
         root[i] = (root[i] << 1) | digit(t, a);
         left[i] = left[i] << 2;
-        i += 1;
     }
 }
 
@@ -56,10 +54,8 @@ pub(crate) fn digits_eight(root: [u32; 8], rem: [u32; 8], left: [u32; 8], n: usi
     let mut so_far = root;
     let mut beyond = rem;
     let mut next = left;
-    let mut k = n;
-    while k > 0 {
+    for _ in 0..n {
         turn_eight(&mut so_far, &mut beyond, &mut next);
-        k -= 1;
     }
     Eight {
         root: so_far,

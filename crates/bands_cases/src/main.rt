@@ -2,7 +2,7 @@
 // scripts/bands_cases.py prints the same lines by its own arithmetic.
 #![tactic(auto)]
 
-use bands::Banded;
+use bands::BandError;
 use std::io;
 use std::io::Write;
 
@@ -27,16 +27,16 @@ pub(crate) fn end_line<W: Write>(to: &mut W) -> io::Result<()> {
 }
 
 // The reply's number and values.
-fn reply<W: Write>(to: &mut W, a: Banded) -> io::Result<()> {
+fn reply<W: Write>(to: &mut W, a: Result<(), BandError>) -> io::Result<()> {
     to.write_all(b"reply")?;
     match a {
-        Banded::Done => {
+        Ok(()) => {
             word(to, 0)?;
         }
-        Banded::Lent => {
+        Err(BandError::Lent) => {
             word(to, 1)?;
         }
-        Banded::Band { channel, band } => {
+        Err(BandError::Band { channel, band }) => {
             word(to, 7)?;
             word(to, long(channel))?;
             word(to, long(band))?;
@@ -47,10 +47,8 @@ fn reply<W: Write>(to: &mut W, a: Banded) -> io::Result<()> {
 
 fn weights<W: Write>(to: &mut W, out: &[f32]) -> io::Result<()> {
     to.write_all(b"weights")?;
-    let mut i: usize = 0;
-    while i < out.len() {
-        word(to, bits(out[i]))?;
-        i += 1;
+    for x in out {
+        word(to, bits(*x))?;
     }
     end_line(to)
 }
@@ -73,10 +71,8 @@ fn call<W: Write>(
 fn freqs<W: Write>(to: &mut W, p: &[f32; 12]) -> io::Result<()> {
     to.write_all(b"freqs")?;
     let all = bands::freq_weights(p);
-    let mut k: usize = 0;
-    while k < 48 {
-        word(to, bits(all[k]))?;
-        k += 1;
+    for x in all {
+        word(to, bits(x))?;
     }
     end_line(to)
 }

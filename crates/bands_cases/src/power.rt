@@ -46,14 +46,12 @@ fn whole_line<W: Write>(to: &mut W, x: u64) -> io::Result<()> {
 // Powers of any normal q, of as many near 1, and of as many subnormal ones.
 fn powers<W: Write>(to: &mut W) -> io::Result<()> {
     let mut x: u64 = 1;
-    let mut i: u64 = 0;
-    while i < 200 {
+    for _ in 0..200 {
         let a = next(x);
         x = next(a);
         power_line(to, (8388608 + a % 2130706432) as u32, x as u32)?;
         power_line(to, (1006632960 + a % 134217728) as u32, x as u32)?;
         power_line(to, (a % 8388608) as u32, x as u32)?;
-        i += 1;
     }
     Ok(())
 }
@@ -61,25 +59,21 @@ fn powers<W: Write>(to: &mut W) -> io::Result<()> {
 // Roots of any float above zero, and of as many subnormal ones.
 fn roots<W: Write>(to: &mut W) -> io::Result<()> {
     let mut x: u64 = 2;
-    let mut i: u64 = 0;
-    while i < 60 {
+    for _ in 0..60 {
         x = next(x);
         root_line(to, (x % 2139095040) as u32)?;
         root_line(to, (x % 8388608) as u32)?;
-        i += 1;
     }
     Ok(())
 }
 
 fn wholes<W: Write>(to: &mut W) -> io::Result<()> {
     let mut x: u64 = 3;
-    let mut i: u64 = 0;
-    while i < 60 {
+    for _ in 0..60 {
         let a = next(x);
         x = next(a);
         whole_line(to, a * 4294967296 + x)?;
         whole_line(to, x)?;
-        i += 1;
     }
     Ok(())
 }

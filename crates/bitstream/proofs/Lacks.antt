@@ -8,26 +8,25 @@ use native.Mathlib.Nat.{sub-eq-zero_of_le, sub-pos_iff_lt, max-eq_left, max-eq_r
 use native.Mathlib.Omega.{arith}
 use native.Mathlib.Decide.{dec_lt}
 use lib.ListN.{length, length-append, get_or-append}
-use Rattle.bitstream.specs.Bits.{bit_count, bit_at, field, lacking, read_up_to, read_bits}
-use Rattle.bitstream.specs.declared.Bits.TheVariants.{Value, Short}
+use Rattle.bitstream.specs.Bits.{bit_count, bit_at, field, lacking, found, short, read_up_to, read_bits}
 use Rattle.bitstream.proofs.Laws.{up_to_in, up_to_past, up_to_value, up_to_short}
 
-module _ (b : List ℕ) (end p n l : ℕ) (e : read_up_to b end p n ≡ Short l) where
+module _ (b : List ℕ) (end p n l : ℕ) (e : read_up_to b end p n ≡ short p l) where
   pub lacks_within : (1 ≤ l) × (l ≤ n)
   lacks_within = let (is, some) = up_to_short b end p n l e in (some, omega (arith, is))
 
   -- m bits more, in whatever string
   module _ (c : List ℕ) (m : ℕ) where
-    pub lacks_filled : l ≤ m → read_up_to c (max p end + m) p n ≡ Value (field c p n) (p + n)
+    pub lacks_filled : l ≤ m → read_up_to c (max p end + m) p n ≡ found (field c p n) (p + n)
     lacks_filled h = let (is, some) = up_to_short b end p n l e in up_to_in c (max p end + m) p n (omega (arith, is))
 
-    pub lacks_fewer : m < l → read_up_to c (max p end + m) p n ≡ Short (l - m)
+    pub lacks_fewer : m < l → read_up_to c (max p end + m) p n ≡ short p (l - m)
     lacks_fewer h =
         let (is, some) = up_to_short b end p n l e in
         let left : lacking (max p end + m) p n ≡ l - m = omega (arith, is) in
-        up_to_past c (max p end + m) p n (omega (arith, left)) ∙ ap Short left
+        up_to_past c (max p end + m) p n (omega (arith, left)) ∙ ap (short p) left
 
-pub read_within : (b : List ℕ) (p n l : ℕ) → read_bits b p n ≡ Short l → (1 ≤ l) × (l ≤ n)
+pub read_within : (b : List ℕ) (p n l : ℕ) → read_bits b p n ≡ short p l → (1 ≤ l) × (l ≤ n)
 unfolding read_bits
 read_within b p n l e = lacks_within b (bit_count b) p n l e
 
@@ -57,21 +56,21 @@ module _ (b d : List ℕ) (p n : ℕ) where
   longer : bit_count b ≤ bit_count (b ++ d)
   longer = omega (arith, length-append b d)
 
-  pub read_kept : (v q : ℕ) → read_bits b p n ≡ Value v q → read_bits (b ++ d) p n ≡ Value v q
+  pub read_kept : (v q : ℕ) → read_bits b p n ≡ found v q → read_bits (b ++ d) p n ≡ found v q
   unfolding read_bits
   read_kept v q e =
       let (none, is, next) = up_to_value b (bit_count b) p n v q e in
-      rw (is, next) (up_to_in (b ++ d) (bit_count (b ++ d)) p n (omega (arith, none, longer)) ∙ ap (λ (x : ℕ). Value x (p + n)) (field_kept b d p n (omega (arith, none))))
+      rw (is, next) (up_to_in (b ++ d) (bit_count (b ++ d)) p n (omega (arith, none, longer)) ∙ ap (λ (x : ℕ). found x (p + n)) (field_kept b d p n (omega (arith, none))))
 
-  module _ (l : ℕ) (e : read_bits b p n ≡ Short l) where
-    pub read_fewer : bit_count (b ++ d) - max p (bit_count b) < l → read_bits (b ++ d) p n ≡ Short (l - (bit_count (b ++ d) - max p (bit_count b)))
+  module _ (l : ℕ) (e : read_bits b p n ≡ short p l) where
+    pub read_fewer : bit_count (b ++ d) - max p (bit_count b) < l → read_bits (b ++ d) p n ≡ short p (l - (bit_count (b ++ d) - max p (bit_count b)))
     unfolding read_bits
     read_fewer h =
         let (is, some) = up_to_short b (bit_count b) p n l e in
         let left = fewer (bit_count b) (bit_count (b ++ d)) p n l longer is in
-        up_to_past (b ++ d) (bit_count (b ++ d)) p n (subst⁻¹ (λ (m : ℕ). 0 < m) left (sub-pos_iff_lt.1 h)) ∙ ap Short left
+        up_to_past (b ++ d) (bit_count (b ++ d)) p n (subst⁻¹ (λ (m : ℕ). 0 < m) left (sub-pos_iff_lt.1 h)) ∙ ap (short p) left
 
-    pub read_filled : l ≤ bit_count (b ++ d) - max p (bit_count b) → read_bits (b ++ d) p n ≡ Value (field (b ++ d) p n) (p + n)
+    pub read_filled : l ≤ bit_count (b ++ d) - max p (bit_count b) → read_bits (b ++ d) p n ≡ found (field (b ++ d) p n) (p + n)
     unfolding read_bits
     read_filled h =
         let (is, some) = up_to_short b (bit_count b) p n l e in

@@ -13,9 +13,9 @@ use Rattle.transform.specs.Kinds.{area_of}
 use Rattle.dequant.specs.Shown.{channel_start, found, shown, channel_part, named}
 use Rattle.dequant.specs.declared.shown.Order.{Order}
 use Rattle.dequant.specs.declared.shown.Order.TheVariants.{Unnamed, Straight, Transposed}
-use Rattle.dequant.specs.Jpeg.{jpeg_answer, jpeg_values, given_by}
-use Rattle.dequant.specs.declared.jpeg.Jpeg.{Jpeg}
-use Rattle.dequant.specs.declared.jpeg.Jpeg.TheVariants.{Done, Lent, Row, None}
+use Rattle.dequant.specs.Jpeg.{Jpeg, jpeg_answer, jpeg_values, given_by}
+use Rattle.dequant.specs.declared.jpeg.JpegError.TheVariants.{Lent, Row, None}
+use Rattle.std.proofs.Common.{Ok, Err}
 use Rattle.capi.specs.Parts.{order_of, arena_of, part_reply, lookup_reply, jpeg_reply}
 
 -- the part of one of two arenas that three values name
@@ -44,7 +44,7 @@ unfolding jpeg_values
 jpeg_names rows zs c = go (jpeg_answer rows (length zs) c)
   where
     go : (j : Jpeg) → samples_of zs (jpeg_reply (c * 64) j) ≡ given_by j (take 64 (drop (c * 64) zs))
-    go Done = refl
-    go Lent = refl
-    go (Row k) = refl
-    go None = refl
+    go (Ok done) = refl
+    go (Err Lent) = refl
+    go (Err (Row k)) = refl
+    go (Err None) = refl

@@ -1,4 +1,4 @@
--- Where a part stands: lookup's answer by its tests, and the first place of JPEG values.
+-- Where a part stands: lookup's answer by its tests.
 -- Assumes nothing.
 use mathlib.Core.Path.{◌≡◌, refl, sym, ap, ◌∙◌}
 use mathlib.Core.Bool.{Bool, true, false, cond, ◌&&◌}
@@ -8,22 +8,8 @@ use borrow.Author.Tests.{le-leb, lt-leb, lt-ltb, ne_eqb}
 use lib.Dec.{ltb, eqb}
 use Rattle.transform.specs.Kinds.{area_of, start_of}
 use Rattle.dequant.specs.Shown.{found}
-use Rattle.dequant.specs.Jpeg.{jpeg_lent, jpeg_answer}
-use Rattle.dequant.proofs.JpegLaws.{given, says_lent}
-use Rattle.dequant.specs.declared.jpeg.Jpeg.{Jpeg}
 use Rattle.dequant.specs.declared.shown.Order.TheVariants.{Unnamed, Straight, Transposed}
-use Rattle.capi.specs.Parts.{arena_of, arena_no, part_reply, lookup_reply, jpeg_reply}
-
--- order 1 shows arena 0, every other order arena 1
-pub straight_arena_lem : (o : ℕ) → o ≡ 1 → 0 ≡ arena_no o
-straight_arena_lem o e = sym (ap (λ (i : ℕ). arena_no i) e)
-
-pub other_arena : (o : ℕ) → (o ≡ 1 → ⊥) → 1 ≡ arena_no o
-other_arena o h = go (eqb o 2) ∙ sym (ap (λ (x : Bool). arena_of (cond (eqb o 2) Transposed (cond x Straight Unnamed))) (ne_eqb o 1 h))
-  where
-    go : (x : Bool) → 1 ≡ arena_of (cond x Transposed Unnamed)
-    go true = refl
-    go false = refl
+use Rattle.capi.specs.Parts.{arena_of, arena_no, part_reply, lookup_reply}
 
 module _ (s t k c o : ℕ) where
   pub unknown_order : 2 < o → 1 ∷ [] ≡ lookup_reply s t k c o
@@ -51,15 +37,3 @@ module _ (s t k c o : ℕ) where
   worked_out n b a h e p q r =
       ap (λ (x : ℕ). 0 ∷ x ∷ (b + c * a) ∷ a ∷ []) p ∙ ap (λ (x : ℕ). 0 ∷ arena_no o ∷ (x + c * a) ∷ a ∷ []) q
       ∙ ap (λ (x : ℕ). 0 ∷ arena_no o ∷ (start_of k + c * x) ∷ x ∷ []) r ∙ there h e
-
--- only a channel below 3 is answered with DONE, so that nothing is lost by giving others the place 0
-pub jpeg_first : (rows : List ℕ) (n c : ℕ)
-    → jpeg_reply (cond (ltb c 3) (c * 64) 0) (jpeg_answer rows n c) ≡ jpeg_reply (c * 64) (jpeg_answer rows n c)
-jpeg_first rows n c = go (jpeg_lent rows n c) refl
-  where
-    go : (b : Bool) → jpeg_lent rows n c ≡ b
-        → jpeg_reply (cond (ltb c 3) (c * 64) 0) (jpeg_answer rows n c) ≡ jpeg_reply (c * 64) (jpeg_answer rows n c)
-    go true e = ap (λ (x : Bool). jpeg_reply (cond x (c * 64) 0) (jpeg_answer rows n c)) (lt-ltb c 3 (given rows n c e).channel)
-    go false e =
-        ap (λ (j : Jpeg). jpeg_reply (cond (ltb c 3) (c * 64) 0) j) (sym (says_lent rows n c e))
-        ∙ ap (λ (j : Jpeg). jpeg_reply (c * 64) j) (says_lent rows n c e)

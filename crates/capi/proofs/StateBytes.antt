@@ -1,22 +1,29 @@
 -- Bytes and states: the way there and back, and that the states which calls leave are bytes. Assumes nothing.
-use mathlib.Core.Path.{◌≡◌, refl, sym, ap, ◌∙◌}
+use mathlib.Core.Path.{◌≡◌, refl, sym, ap, ◌∙◌, subst}
 use mathlib.Core.Bool.{Bool, true, false, cond, ◌&&◌, and-false}
 use mathlib.Core.List.{List, [], ◌∷◌, ◌++◌, append-nil}
-use Prim.Native.Nat.{ℕ, zero, suc, ◌-◌, ◌≤◌, ◌<◌}
+use Prim.Native.Nat.{ℕ, zero, suc, ◌+◌, ◌-◌, ◌≤◌, ◌<◌}
 use native.Mathlib.Decide.{ℕ_discrete}
 use native.Mathlib.Omega.{arith}
+use native.Mathlib.Nat.{add-zero, zero-add, not-suc-le-zero, le_of_suc-le-suc}
 use borrow.Author.Tests.{eq-eqb, ne_eqb}
 use lib.Dec.{eqb, ltb, leb, lit<}
-use lib.ListN.{length, get_or, take, drop, set, replicate, length-append, length-take, drop_of_length-le}
-use lib.Seq.{paste, take_all}
+use lib.ListN.{length, get_or, take, drop, set, replicate, length-append, length-drop, length-set, length-take, drop_of_length-le}
+use lib.Seq.{paste, take_all, get_or-drop}
 use Rattle.transform.specs.Kinds.{places_of}
 use Rattle.transform.proofs.Chain.{right}
 use Rattle.short_arena.specs.declared.held.State.{State}
-use Rattle.short_arena.specs.declared.arena.Answer.{Answer}
-use Rattle.short_arena.specs.declared.arena.Answer.TheVariants.{Done, Part, Lent, Held, Full, Gone}
+use Rattle.std.proofs.Common.{Result, Ok, Err, ext_get_or}
+use Rattle.short_arena.specs.declared.arena.Part.{Part}
+use Rattle.short_arena.specs.declared.arena.ShortError.{ShortError}
+use Rattle.short_arena.specs.declared.arena.ShortError.TheVariants.{Lent, Held, Full, Gone}
 use Rattle.short_arena.specs.Held.{held_of, state_of, is_held, places_in, without}
-use Rattle.short_arena.specs.Short.{lent_right, add_answer, add_state, drop_answer, drop_state, leaves}
+use Rattle.short_arena.specs.Short.{part_at, lent_right, add_answer, add_state, drop_answer, drop_state, leaves}
 use Rattle.short_arena.proofs.Lending.{is_right}
+use denote.Param.Members.{Mut}
+use Rattle.std.proofs.lemmas.List.Edits.{paste_more}
+use Rattle.std.specs.Array.{IsFromFnResult, IsFromFnResultFrom}
+use Rattle.std.specs.Fn.{Called}
 use Rattle.capi.specs.Bytes.{no_state, state_in, bytes_of, add_bytes, drop_bytes}
 use Rattle.capi.specs.Said.{Small, put_bytes}
 
@@ -58,29 +65,23 @@ bytes_back b = go (ℕ_discrete (length b) 18)
     go (no h) = sym (other_bytes b (state_in b) h)
 
 -- what is put back is what the call leaves: nothing new where it refuses, or where there were no 18 bytes
-put_back : (b : List ℕ) (r : Answer) (new : State) → ((length b ≡ 18 → ⊥) → r ≡ Lent) → put_bytes b (leaves r new (state_in b)) ≡ leaves r (bytes_of (leaves r new (state_in b))) b
-put_back b r new f = go (ℕ_discrete (length b) 18)
+put_back : {T : Type 0} (b : List ℕ) (r : Result T ShortError) (new : State) → ((length b ≡ 18 → ⊥) → r ≡ Err Lent) → put_bytes b (leaves r new (state_in b)) ≡ leaves r (bytes_of (leaves r new (state_in b))) b
+put_back {T} b r new f = go (ℕ_discrete (length b) 18)
   where
-    there : (x : Answer) → length b ≡ 18 → put_bytes b (leaves x new (state_in b)) ≡ leaves x (bytes_of (leaves x new (state_in b))) b
-    there Done e = sym (right_bytes b new e)
-    there (Part p q) e = sym (right_bytes b new e)
-    there Lent e = bytes_back b
-    there Held e = bytes_back b
-    there Full e = bytes_back b
-    there Gone e = bytes_back b
+    there : (x : Result T ShortError) → length b ≡ 18 → put_bytes b (leaves x new (state_in b)) ≡ leaves x (bytes_of (leaves x new (state_in b))) b
+    there (Ok x) e = sym (right_bytes b new e)
+    there (Err x) e = bytes_back b
 
     go : Dec (length b ≡ 18) → put_bytes b (leaves r new (state_in b)) ≡ leaves r (bytes_of (leaves r new (state_in b))) b
     go (yes e) = there r e
-    go (no h) =
-        ap (λ (x : Answer). put_bytes b (leaves x new (state_in b))) (f h) ∙ bytes_back b
-        ∙ sym (ap (λ (x : Answer). leaves x (bytes_of (leaves x new (state_in b))) b) (f h))
+    go (no h) = rw (f h) (bytes_back b)
 
 module _ (n : ℕ) (b : List ℕ) (k : ℕ) where
-  add_other : (m : ℕ) → (length b ≡ 18 → ⊥) → add_answer n (state_in b) k m ≡ Lent
+  add_other : (m : ℕ) → (length b ≡ 18 → ⊥) → add_answer n (state_in b) k m ≡ Err Lent
   unfolding add_answer
   add_other m h = rw (other_lent n b k h, and-false (eqb m (places_of k)))
 
-  drop_other : (length b ≡ 18 → ⊥) → drop_answer n (state_in b) k ≡ Lent
+  drop_other : (length b ≡ 18 → ⊥) → drop_answer n (state_in b) k ≡ Err Lent
   unfolding drop_answer
   drop_other h = rw (other_lent n b k h)
 
@@ -92,17 +93,32 @@ module _ (n : ℕ) (b : List ℕ) (k : ℕ) where
   unfolding drop_state
   drop_bytes_lem = put_back b (drop_answer n (state_in b) k) (state_of (without (held_of (state_in b)) k)) drop_other
 
--- 17 kinds copied into an array of zeros
-pub all_read : (ks : List ℕ) → length ks ≡ 17 → paste (replicate 17 0) 0 ks 17 ≡ ks
-all_read ks e = ap (λ (l : List ℕ). l ++ []) (take_all 17 ks (omega arith)) ∙ append-nil ks
+-- one kind more behind the first byte
+pub put_more : (b x ks : List ℕ) (n i : ℕ) → length b ≡ 18 → length ks ≡ 17 → i < 17 → x ≡ paste (set b 0 n) 1 ks i → set x (1 + i) (get_or ks i 0) ≡ paste (set b 0 n) 1 ks (i + 1)
+put_more b x ks n i e f h g = ap (λ (y : List ℕ). set y (1 + i) (get_or ks i 0)) g ∙ paste_more (set b 0 n) 1 ks i 0 (omega (arith, length-set b 0 n)) (omega arith)
 
--- 17 kinds behind the first byte, and then that byte
-pub all_put : (b : List ℕ) (n : ℕ) (ks : List ℕ) → length b ≡ 18 → length ks ≡ 17 → set (paste b 1 ks 17) 0 n ≡ n ∷ ks
-all_put [] n ks e f = absurd (omega arith)
-all_put (x ∷ b) n ks e f =
-    ap (λ (l : List ℕ). n ∷ (l ++ drop 17 b)) (take_all 17 ks (omega arith))
-    ∙ ap (λ (l : List ℕ). n ∷ (ks ++ l)) (drop_of_length-le b {i = 17} (omega arith))
-    ∙ ap (λ (l : List ℕ). n ∷ l) (append-nil ks)
+-- the first byte, and then 17 kinds behind it
+pub all_put : (b : List ℕ) (s : State) (i : ℕ) → length b ≡ 18 → length s.kinds ≡ 17 → 17 ≤ i → i ≤ 17 → paste (set b 0 s.count) 1 s.kinds i ≡ put_bytes b s
+all_put [] s i e f g h = absurd (omega arith)
+all_put (x ∷ b) s i e f g h =
+    let n : i ≡ 17 = omega arith in
+    ap (paste (s.count ∷ b) 1 s.kinds) n
+    ∙ ap (λ (l : List ℕ). s.count ∷ (l ++ drop 17 b)) (take_all 17 s.kinds (omega arith))
+    ∙ ap (λ (l : List ℕ). s.count ∷ (s.kinds ++ l)) (drop_of_length-le b {i = 17} (omega arith))
+    ∙ ap (λ (l : List ℕ). s.count ∷ l) (append-nil s.kinds)
+    ∙ right_bytes (x ∷ b) s e
+
+-- an array made by a function of the index that reads the bytes behind the first
+module _ {F : Type 0} (g : Mut F (ℕ × Unit {0}) ℕ) (f : F) (ys b : List ℕ) (k : (i y : ℕ) (q : F) → Called g f (i, tt) y q → (q ≡ f) × (y ≡ get_or b (1 + i) 0)) where
+  made_at : (n i j : ℕ) → IsFromFnResultFrom g f ys i n → j < n → get_or ys (i + j) 0 ≡ get_or b (1 + (i + j)) 0
+  made_at zero i j r l = absurd (not-suc-le-zero l)
+  made_at (suc n) i zero r l = subst (λ m. get_or ys m 0 ≡ get_or b (1 + m) 0) (sym (add-zero i)) (r.2.1 0 ∙ (k i r.1 r.0 r.3).1)
+  made_at (suc n) i (suc j) r l =
+      let e : i + 1 + j ≡ i + suc j = omega arith in
+      subst (λ m. get_or ys m 0 ≡ get_or b (1 + m) 0) e (made_at n (i + 1) j (subst (λ p. IsFromFnResultFrom g p ys (i + 1) n) (k i r.1 r.0 r.3).0 r.4) (le_of_suc-le-suc l))
+
+  pub all_made : (n : ℕ) → IsFromFnResult g f ys n → length b ≡ n + 1 → ys ≡ drop 1 b
+  all_made n r e = ext_get_or 0 ys (drop 1 b) (omega (arith, r.long, length-drop 1 b)) (λ i l. subst (λ m. get_or ys m 0 ≡ get_or b (1 + m) 0) (zero-add i) (made_at n 0 i r.each (subst (λ m. i < m) r.long l)) ∙ sym (get_or-drop 1 b i 0))
 
 -- ---- numbers that are all below 256
 abbrev Bytes : List ℕ → Type 0
@@ -168,10 +184,10 @@ module _ (n : ℕ) (s : State) (k : ℕ) (g : Small s) where
   unfolding add_state add_answer
   add_small m = go (eqb m (places_of k) && lent_right n s k) (is_held (held_of s) k) (ltb (n - places_in (held_of s)) (places_of k)) refl
     where
-      P : Answer → Type 0
+      P : Result Part ShortError → Type 0
       P r = Small (leaves r (state_of (held_of s ++ k ∷ [])) s)
 
-      go : (x y z : Bool) → (eqb m (places_of k) && lent_right n s k) ≡ x → P (cond x (cond y Held (cond z Full (Part (places_in (held_of s)) (places_of k)))) Lent)
+      go : (x y z : Bool) → (eqb m (places_of k) && lent_right n s k) ≡ x → P (cond x (cond y (Err Held) (cond z (Err Full) (Ok (part_at (places_in (held_of s)) (places_of k))))) (Err Lent))
       go true true z p = g
       go true false true p = g
       go true false false p =
@@ -187,10 +203,10 @@ module _ (n : ℕ) (s : State) (k : ℕ) (g : Small s) where
   unfolding drop_state drop_answer
   drop_small = go (lent_right n s k) (is_held (held_of s) k) refl
     where
-      P : Answer → Type 0
+      P : Result (Unit {0}) ShortError → Type 0
       P r = Small (leaves r (state_of (without (held_of s) k)) s)
 
-      go : (x y : Bool) → lent_right n s k ≡ x → P (cond x (cond y Done Gone) Lent)
+      go : (x y : Bool) → lent_right n s k ≡ x → P (cond x (cond y (Ok tt) (Err Gone)) (Err Lent))
       go true true p =
           let c = (is_right n s k p).count in
           let t = length-take s.count s.kinds in

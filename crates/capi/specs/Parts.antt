@@ -1,10 +1,8 @@
 -- A part as the C face gives it: where it starts and how long it is. Definitions only.
-use Rattle.std.specs.Prelude.{ℕ, ◌&&◌, cond, List, [], ◌∷◌, leb, eqb}
+use Rattle.std.specs.Prelude.{ℕ, ◌&&◌, cond, List, [], ◌∷◌, leb, eqb, Ok, Err}
 use Rattle.transform.specs.Kinds.{area_of}
 use Rattle.dequant.specs.Shown.{named, channel_start, found}
-use Rattle.dequant.specs.Jpeg.{jpeg_numbers}
-use Rattle.dequant.specs.declared.jpeg.Jpeg.{Jpeg}
-use Rattle.dequant.specs.declared.jpeg.Jpeg.TheVariants.{Done, Lent, Row, None}
+use Rattle.dequant.specs.Jpeg.{Jpeg, jpeg_numbers}
 use Rattle.dequant.specs.declared.shown.Order.{Order}
 use Rattle.dequant.specs.declared.shown.Order.TheVariants.{Unnamed, Straight, Transposed}
 
@@ -30,7 +28,5 @@ lookup_reply s t k c o = cond (leb o 2 && found k c s t) (part_reply k c o) (1 �
 
 -- JPEG values that begin at a place of the samples: DONE with that place, and 64
 abbrev pub jpeg_reply : ℕ → Jpeg → List ℕ
-jpeg_reply first Done = 0 ∷ first ∷ 64 ∷ []
-jpeg_reply first Lent = jpeg_numbers Lent
-jpeg_reply first (Row k) = jpeg_numbers (Row k)
-jpeg_reply first None = jpeg_numbers None
+jpeg_reply first (Ok done) = 0 ∷ first ∷ 64 ∷ []
+jpeg_reply first (Err why) = jpeg_numbers (Err why)

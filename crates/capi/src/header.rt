@@ -7,16 +7,18 @@ ghost use Rattle.capi.specs.Said.{said_of};
 use crate::reply::{Said, made, say};
 use params::Reading;
 
-fn said_reading(found: Reading) -> Said
-    ensures { result ≡ said_of (reply_of found) }
-{
-    match found {
-        Reading::Done { next } => made(0, next, 0, 0),
-        Reading::Lent => made(1, 0, 0, 0),
-        Reading::Short { kind, bit, lacks } => made(2, kind as u64, bit, lacks),
-        Reading::Mode { kind, bit } => made(3, kind as u64, bit, 0),
-        Reading::Float { kind, bit } => made(4, kind as u64, bit, 0),
-        Reading::Raw { kind, next } => made(5, kind as u64, next, 0),
+impl From<Reading> for Said {
+    ghost from_gives = { λ found said. said ≡ said_of (reply_of found) };
+
+    fn from(found: Reading) -> Said {
+        match found {
+            Reading::Done { next } => made(0, next, 0, 0),
+            Reading::Lent => made(1, 0, 0, 0),
+            Reading::Short { kind, bit, lacks } => made(2, kind as u64, bit, lacks),
+            Reading::Mode { kind, bit } => made(3, kind as u64, bit, 0),
+            Reading::Float { kind, bit } => made(4, kind as u64, bit, 0),
+            Reading::Raw { kind, next } => made(5, kind as u64, next, 0),
+        }
     }
 }
 
@@ -36,5 +38,5 @@ pub fn dequant_read_header(
         return 1;
     }
     let found = params::read_header(header, bit, kind, rows);
-    say(said_reading(found), reply)
+    say(found.into(), reply)
 }

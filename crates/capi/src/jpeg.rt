@@ -1,32 +1,23 @@
 // Where the JPEG values of a channel stand.
-ghost use Rattle.std.specs.Prelude.{◌≡◌, cond, ◌*◌, ltb, length};
-ghost use Rattle.dequant.specs.Jpeg.{jpeg_answer};
+ghost use Rattle.std.specs.Prelude.{◌≡◌, ◌*◌, length, Err};
+ghost use Rattle.dequant.specs.Jpeg.{jpeg_numbers, jpeg_answer};
 ghost use Rattle.capi.specs.Parts.{jpeg_reply};
 ghost use Rattle.capi.specs.Reply.{returned, held};
 ghost use Rattle.capi.specs.Said.{said_of};
 
 use crate::reply::{Said, made, say};
-use dequant::Jpeg;
+use dequant::JpegError;
 
-fn said_jpeg(found: Jpeg, first: u64) -> Said
-    ensures { result ≡ said_of (jpeg_reply first found) }
-{
-    match found {
-        Jpeg::Done => made(0, first, 64, 0),
-        Jpeg::Lent => made(1, 0, 0, 0),
-        Jpeg::Row { kind } => made(6, kind as u64, 0, 0),
-        Jpeg::None => made(11, 0, 0, 0),
-    }
-}
+impl From<JpegError> for Said {
+    ghost from_gives = { λ why said. said ≡ said_of (jpeg_numbers (Err why)) };
 
-// A channel's first place among the samples; no other number is a channel.
-fn first_of(channel: usize) -> u64
-    ensures { result ≡ cond (ltb channel 3) (channel * 64) 0 }
-{
-    if channel < 3 {
-        return (channel * 64) as u64;
+    fn from(why: JpegError) -> Said {
+        match why {
+            JpegError::Lent => made(1, 0, 0, 0),
+            JpegError::Row { kind } => made(6, kind as u64, 0, 0),
+            JpegError::None => made(11, 0, 0, 0),
+        }
     }
-    0
 }
 
 // Says where the 64 JPEG values of a channel stand in the samples, or why there are none.
@@ -42,6 +33,9 @@ pub fn dequant_jpeg_quant_values(
     if reply.len() != 3 {
         return 1;
     }
-    let found = dequant::jpeg_reply(rows, samples, channel);
-    say(said_jpeg(found, first_of(channel)), reply)
+    let said = match dequant::jpeg_reply(rows, samples, channel) {
+        Ok(()) => made(0, (channel * 64) as u64, 64, 0),
+        Err(why) => why.into(),
+    };
+    say(said, reply)
 }

@@ -9,24 +9,26 @@ ghost use Rattle.capi.specs.Reply.{returned, held, kept};
 use crate::reply::{Said, made, say};
 use matrix::Expanded;
 
-pub(crate) fn said_expanded(found: Expanded) -> Said
-    ensures { result ≡ said_of (reply_of found) }
-{
-    match found {
-        Expanded::Done => made(0, 0, 0, 0),
-        Expanded::Lent => made(1, 0, 0, 0),
-        Expanded::Row { kind } => made(6, kind as u64, 0, 0),
-        Expanded::Band {
-            kind,
-            channel,
-            band,
-        } => made(7, kind as u64, channel as u64, band as u64),
-        Expanded::Weight {
-            kind,
-            channel,
-            place,
-        } => made(8, kind as u64, channel as u64, place as u64),
-        Expanded::Denom { kind } => made(12, kind as u64, 0, 0),
+impl From<Expanded> for Said {
+    ghost from_gives = { λ found said. said ≡ said_of (reply_of found) };
+
+    fn from(found: Expanded) -> Said {
+        match found {
+            Expanded::Done => made(0, 0, 0, 0),
+            Expanded::Lent => made(1, 0, 0, 0),
+            Expanded::Row { kind } => made(6, kind as u64, 0, 0),
+            Expanded::Band {
+                kind,
+                channel,
+                band,
+            } => made(7, kind as u64, channel as u64, band as u64),
+            Expanded::Weight {
+                kind,
+                channel,
+                place,
+            } => made(8, kind as u64, channel as u64, place as u64),
+            Expanded::Denom { kind } => made(12, kind as u64, 0, 0),
+        }
     }
 }
 
@@ -48,5 +50,5 @@ pub fn dequant_expand_kind(
         return 1;
     }
     let found = matrix::expand_kind(kind, row, samples, straight, transposed);
-    say(said_expanded(found), reply)
+    say(found.into(), reply)
 }

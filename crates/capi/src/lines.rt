@@ -7,25 +7,29 @@ ghost use Rattle.capi.specs.Said.{said_of};
 use crate::reply::{Said, made, say};
 use record::{Taken, Written};
 
-fn said_written(found: Written) -> Said
-    ensures { result ≡ said_of (written_reply found) }
-{
-    match found {
-        Written::Done { length } => made(0, length as u64, 0, 0),
-        Written::Lent => made(1, 0, 0, 0),
-        Written::Row { kind } => made(6, kind as u64, 0, 0),
-        Written::Room { length } => made(9, length as u64, 0, 0),
+impl From<Written> for Said {
+    ghost from_gives = { λ found said. said ≡ said_of (written_reply found) };
+
+    fn from(found: Written) -> Said {
+        match found {
+            Written::Done { length } => made(0, length as u64, 0, 0),
+            Written::Lent => made(1, 0, 0, 0),
+            Written::Row { kind } => made(6, kind as u64, 0, 0),
+            Written::Room { length } => made(9, length as u64, 0, 0),
+        }
     }
 }
 
-fn said_taken(found: Taken) -> Said
-    ensures { result ≡ said_of (taken_reply found) }
-{
-    match found {
-        Taken::Done => made(0, 0, 0, 0),
-        Taken::Lent => made(1, 0, 0, 0),
-        Taken::Room { length } => made(9, length as u64, 0, 0),
-        Taken::Text { length } => made(10, length as u64, 0, 0),
+impl From<Taken> for Said {
+    ghost from_gives = { λ found said. said ≡ said_of (taken_reply found) };
+
+    fn from(found: Taken) -> Said {
+        match found {
+            Taken::Done => made(0, 0, 0, 0),
+            Taken::Lent => made(1, 0, 0, 0),
+            Taken::Room { length } => made(9, length as u64, 0, 0),
+            Taken::Text { length } => made(10, length as u64, 0, 0),
+        }
     }
 }
 
@@ -44,7 +48,7 @@ pub fn dequant_write_record(
         return 1;
     }
     let found = record::write_record(rows, samples, text);
-    say(said_written(found), reply)
+    say(found.into(), reply)
 }
 
 // Reads a record into rows and samples; a refusal leaves both as they were.
@@ -63,5 +67,5 @@ pub fn dequant_read_record(
         return 1;
     }
     let found = record::read_record(text, rows, samples);
-    say(said_taken(found), reply)
+    say(found.into(), reply)
 }

@@ -27,8 +27,6 @@ pub(crate) fn say(said: Said, reply: &mut [u64]) -> u32
     requires { length reply.old ≡ 3 }
     ensures { (result ≡ said.no) × (reply.new ≡ said.first ∷ said.second ∷ said.third ∷ []) }
 {
-    reply[0] = said.first;
-    reply[1] = said.second;
-    reply[2] = said.third;
+    reply.copy_from_slice(&[said.first, said.second, said.third]);
     said.no
 }

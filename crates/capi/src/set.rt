@@ -4,7 +4,6 @@ ghost use Rattle.matrix.specs.Expanded.{leaves, reply_of};
 ghost use Rattle.dequant.specs.Set.{expand_set, straight_arena, transposed_arena};
 ghost use Rattle.capi.specs.Reply.{returned, held, kept};
 
-use crate::kind::said_expanded;
 use crate::reply::say;
 
 // Expands all kinds into two arenas of 394,752; samples are as many, or none if no row is raw.
@@ -24,5 +23,5 @@ pub fn dequant_expand(
         return 1;
     }
     let found = dequant::expand(rows, samples, straight, transposed);
-    say(said_expanded(found), reply)
+    say(found.into(), reply)
 }

@@ -11,20 +11,14 @@ use transform::Kind;
 fn arena_no(order: u32) -> u64
     ensures { result ≡ arena_no order }
 {
-    if order == 1 {
-        return 0;
-    }
-    1
+    u64::from(order != 1)
 }
 
 // The part of a channel, in arenas of lengths s and t.
 fn said_part(s: usize, t: usize, kind: usize, channel: usize, order: u32) -> Said
     ensures { result ≡ said_of (lookup_reply s t kind channel order) }
 {
-    if order > 2 {
-        return made(1, 0, 0, 0);
-    }
-    if !dequant::names(kind, channel, s, t) {
+    if order > 2 || !dequant::names(kind, channel, s, t) {
         return made(1, 0, 0, 0);
     }
     let k = Kind { no: kind };

@@ -5,14 +5,17 @@ ghost use Rattle.capi.specs.Reply.{returned, held, kept};
 ghost use Rattle.capi.specs.Said.{said_of};
 
 use crate::reply::{Said, made, say};
-use total::Total;
+use total::{Lent, Total};
 
-fn said_total(found: Total) -> Said
-    ensures { result ≡ said_of (total_reply found) }
-{
-    match found {
-        Total::Done { total } => made(0, total, 0, 0),
-        Total::Lent => made(1, 0, 0, 0),
+// A total's reply.
+impl From<Total> for Said {
+    ghost from_gives = { λ found said. said ≡ said_of (total_reply found) };
+
+    fn from(found: Total) -> Said {
+        match found {
+            Ok(total) => made(0, total, 0, 0),
+            Err(Lent) => made(1, 0, 0, 0),
+        }
     }
 }
 
@@ -25,7 +28,7 @@ pub fn dequant_total(arena: &[f32], first: usize, count: usize, reply: &mut [u64
         return 1;
     }
     let found = total::stretch_total(arena, first, count);
-    say(said_total(found), reply)
+    say(found.into(), reply)
 }
 
 // Replaces one kind's weights, and says the total that the arena then has if it had the one that is lent.
@@ -44,5 +47,5 @@ pub fn dequant_replace_kind(
         return 1;
     }
     let found = total::replace_kind(arena, total, kind, weights);
-    say(said_total(found), reply)
+    say(found.into(), reply)
 }

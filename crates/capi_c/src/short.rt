@@ -1,6 +1,6 @@
 // The short arena.
 ghost use Rattle.std.specs.Prelude.{◌≡◌, length};
-ghost use Rattle.short_arena.specs.Short.{short_reply, add_answer, add_arena, find_answer, drop_answer, drop_arena};
+ghost use Rattle.short_arena.specs.Short.{short_reply, drop_reply, add_answer, add_arena, find_answer, drop_answer, drop_arena};
 ghost use Rattle.capi.specs.Bytes.{state_in, add_bytes, drop_bytes};
 ghost use Rattle.capi.specs.Reply.{returned, held, kept};
 
@@ -43,8 +43,8 @@ pub extern "C" fn dequant_short_drop(
     kind: usize,
     reply: &mut [u64],
 ) -> u32
-    ensures answer { result ≡ returned reply.old (short_reply (drop_answer (length arena.old) (state_in state.old) kind)) }
-    ensures reply { reply.new ≡ held reply.old (short_reply (drop_answer (length arena.old) (state_in state.old) kind)) }
+    ensures answer { result ≡ returned reply.old (drop_reply (drop_answer (length arena.old) (state_in state.old) kind)) }
+    ensures reply { reply.new ≡ held reply.old (drop_reply (drop_answer (length arena.old) (state_in state.old) kind)) }
     ensures arena { arena.new ≡ kept reply.old (drop_arena arena.old (state_in state.old) kind) arena.old }
     ensures state { state.new ≡ kept reply.old (drop_bytes (length arena.old) state.old kind) state.old }
 {

@@ -61,6 +61,12 @@ odd_sign h n = sym (odd_is h ∙ go (leb 32768 h) refl)
     go true e = refl
     go false e = ne_eqb (size_is (h / 1024 % 32) (h % 1024)) 0 (none (leb-false 32768 h e))
 
+pub odd_bits : (h : ℕ) → odd_denominator h ≡ (eqb h 0 || leb 32768 h)
+odd_bits h = sym (⊎_elim (λ z. ap (λ (t : Bool). t || leb 32768 h) (eq-eqb h 0 z) ∙ odd_zero h z) (λ p. ap (λ (t : Bool). t || leb 32768 h) (ne_eqb h 0 (above p)) ∙ odd_sign h (above p)) (eq-zero-or-pos h))
+  where
+    above : 0 < h → h ≡ 0 → ⊥
+    above p z = omega arith
+
 -- so none above 0000 and below 8000
 pub not_odd_lem : (h : ℕ) → 0 < h → h < 32768 → odd_denominator h ≡ false
 not_odd_lem h p l = sym (odd_sign h (λ z. lt_irrefl 0 (subst (λ (x : ℕ). 0 < x) z p))) ∙ lt-leb 32768 h l

@@ -16,7 +16,8 @@ use Rattle.params.specs.Allowed.{row_at, row_fault}
 use Rattle.matrix.specs.Mirror.{mirror}
 use Rattle.matrix.specs.Weight.{weights_of}
 use Rattle.matrix.specs.Expanded.{reply_of, kind_answer, expand_answer, leaves}
-use Rattle.matrix.specs.declared.Expanded.TheVariants.{Lent, Row, Denom}
+use Rattle.std.specs.Prelude.{Err}
+use Rattle.matrix.specs.declared.ExpandError.TheVariants.{Lent, Row, Denom}
 use Rattle.promises.proofs.ByNumber.{other, done_only}
 use Rattle.promises.proofs.Places.{both}
 use Rattle.dequant.specs.Set.{straight_of, transposed_of, straight_arena, transposed_arena, set_lent, denom_fault, kinds_answer, expand_set}
@@ -41,7 +42,7 @@ unfolding expand_set
 accepted rows zs s t = go (set_lent rows (length zs) s t) (ltb (row_fault rows) 17) (ltb (denom_fault rows) 17) refl refl refl
   where
     go : (a b c : Bool) → set_lent rows (length zs) s t ≡ a → ltb (row_fault rows) 17 ≡ b → ltb (denom_fault rows) 17 ≡ c
-        → reply_of (cond a (cond b (Row (row_fault rows)) (cond c (Denom (denom_fault rows)) (kinds_answer rows zs 17))) Lent) ≡ 0 ∷ [] → Accepted rows zs s t
+        → reply_of (cond a (cond b (Err (Row (row_fault rows))) (cond c (Err (Denom (denom_fault rows))) (kinds_answer rows zs 17))) (Err Lent)) ≡ 0 ∷ [] → Accepted rows zs s t
     go true true c p q r e = absurd (other 5 (row_fault rows ∷ []) [] e)
     go true false true p q r e = absurd (other 11 (denom_fault rows ∷ []) [] e)
     go true false false p q r e = record { fit = fits rows (length zs) s t p (ltb-false (row_fault rows) 17 q) (ltb-false (denom_fault rows) 17 r); each = each_done rows zs 17 e }

@@ -16,13 +16,13 @@ use Rattle.params.specs.Allowed.{row_at, mode_at, row_allowed, check_rows, check
 use Rattle.params.specs.Raw.{is_raw, samples_lent}
 use Rattle.params.proofs.RawLaws.{raw_none, no_samples}
 use Rattle.bands.proofs.TableLaws.{get_d_tab}
-use Rattle.matrix.specs.declared.Expanded.{Expanded}
-use Rattle.matrix.specs.declared.Expanded.TheVariants.{Done, Weight}
+use Rattle.std.specs.Prelude.{Ok, Err}
+use Rattle.matrix.specs.declared.ExpandError.TheVariants.{Weight}
 use Rattle.matrix.specs.Mirror.{passed}
 use Rattle.matrix.specs.Raw.{odd_denominator, odd_row, weight_of, refused}
 use Rattle.matrix.specs.Numbers.{numbers_of}
 use Rattle.matrix.specs.Weight.{weight_at, weights_of}
-use Rattle.matrix.specs.Expanded.{reply_of, or_else, band_answer, weight_answer, lent_right, kind_answer, expand_answer}
+use Rattle.matrix.specs.Expanded.{Expanded, reply_of, or_else, band_answer, weight_answer, lent_right, kind_answer, expand_answer}
 use Rattle.matrix.proofs.Lending.{all_samples, by_samples}
 use Rattle.matrix.proofs.OddLaws.{raw_row_lem}
 use Rattle.matrix.proofs.Passed.{passed_all}
@@ -35,9 +35,9 @@ use Rattle.promises.proofs.ByNumber.{done_only}
 use Rattle.promises.proofs.RowsChecked.{done_fault}
 
 -- ---- weights
-weights_done : (k : ℕ) (ws : List Float) → ((i : ℕ) → i < length ws → refused (get_or ws i nan) ≡ false) → weight_answer k ws ≡ Done
+weights_done : (k : ℕ) (ws : List Float) → ((i : ℕ) → i < length ws → refused (get_or ws i nan) ≡ false) → weight_answer k ws ≡ Ok tt
 unfolding weight_answer
-weights_done k ws f = ap (λ (b : Bool). cond b (Weight k (passed ws / area_of k) (passed ws % area_of k)) Done) (le-ltb (passed ws) (length ws) (le_of_eq (sym (passed_all ws f))))
+weights_done k ws f = ap (λ (b : Bool). cond b (Err (Weight k (passed ws / area_of k) (passed ws % area_of k))) (Ok tt)) (le-ltb (passed ws) (length ws) (le_of_eq (sym (passed_all ws f))))
 
 -- ---- BAND and WEIGHT, which come after LENT, ROW and DENOM
 -- they let a kind pass whose bands and weights are not refused
@@ -82,7 +82,7 @@ pub bare_lent : (rows : List ℕ) → ((k : ℕ) → k < 17 → mode_at rows k �
 bare_lent rows f = no_samples rows 0 false (λ e. omega arith) (le_refl 0) (raw_none rows 17 (before_every (λ k. not (is_raw rows k)) 17 (λ k h. ap not (ne_eqb (mode_at rows k) 7 (f k h)))) (le_refl 17) (le_refl 17))
 
 -- kinds that are accepted each by itself are accepted one after the other
-pub kinds_done : (rows : List ℕ) (zs : List ℤ) (n : ℕ) → ((k : ℕ) → k < n → reply_of (kind_answer (row_at rows k) (part k zs) k) ≡ 0 ∷ []) → kinds_answer rows zs n ≡ Done
+pub kinds_done : (rows : List ℕ) (zs : List ℤ) (n : ℕ) → ((k : ℕ) → k < n → reply_of (kind_answer (row_at rows k) (part k zs) k) ≡ 0 ∷ []) → kinds_answer rows zs n ≡ Ok tt
 unfolding kinds_answer
 kinds_done rows zs zero f = refl
 kinds_done rows zs (suc n) f =

@@ -26,9 +26,9 @@ use Rattle.bands.specs.Bands.{nought, one}
 use Rattle.bands.proofs.TableLaws.{get_d_tab}
 use Rattle.matrix.specs.Raw.{odd_denominator, odd_row, weight_of, refused}
 use Rattle.matrix.specs.Weight.{weight_at, weights_of}
-use Rattle.matrix.specs.declared.Expanded.{Expanded}
-use Rattle.matrix.specs.declared.Expanded.TheVariants.{Lent, Row, Denom}
-use Rattle.matrix.specs.Expanded.{reply_of, is_done, or_else, leaves, lent_right, kind_answer, expand_answer}
+use Rattle.std.specs.Prelude.{Err}
+use Rattle.matrix.specs.declared.ExpandError.TheVariants.{Lent, Row, Denom}
+use Rattle.matrix.specs.Expanded.{Expanded, reply_of, is_done, or_else, leaves, lent_right, kind_answer, expand_answer}
 use Rattle.matrix.proofs.OddLaws.{odd_zero, odd_sign, plain_row, raw_row_lem}
 use Rattle.matrix.proofs.Passed.{all_pass}
 use Rattle.matrix.proofs.Replies.{done_is, stops}
@@ -81,18 +81,18 @@ not_odd_row row n = go (odd_row row) refl
     go false e = e
 
 -- ---- BAND and WEIGHT clear the outputs, which DENOM does not: so neither is DENOM
-kind_not : (row : List ℕ) (zs : List ℤ) (k j : ℕ) → kind_answer row zs k ≡ Denom j → ⊥
+kind_not : (row : List ℕ) (zs : List ℤ) (k j : ℕ) → kind_answer row zs k ≡ Err (Denom j) → ⊥
 kind_not row zs k j e = true≢false (sym (ap (λ (l : List Float). positive (get_or l 0 nan)) cleared))
   where
     cleared : nought ∷ [] ≡ one ∷ []
-    cleared = refusal_leaves row zs k (Denom j) [] (one ∷ []) (one ∷ []) (nought ∷ []) (sym e) refl refl refl
+    cleared = refusal_leaves row zs k (Err (Denom j)) [] (one ∷ []) (one ∷ []) (nought ∷ []) (sym e) refl refl refl
 
-kinds_not : (rows : List ℕ) (zs : List ℤ) (n j : ℕ) → kinds_answer rows zs n ≡ Denom j → ⊥
+kinds_not : (rows : List ℕ) (zs : List ℤ) (n j : ℕ) → kinds_answer rows zs n ≡ Err (Denom j) → ⊥
 unfolding kinds_answer
 kinds_not rows zs zero j e = true≢false (ap is_done e)
 kinds_not rows zs (suc n) j e = go (is_done (kinds_answer rows zs n)) refl (kinds_not rows zs n j)
   where
-    go : (b : Bool) → is_done (kinds_answer rows zs n) ≡ b → (kinds_answer rows zs n ≡ Denom j → ⊥) → ⊥
+    go : (b : Bool) → is_done (kinds_answer rows zs n) ≡ b → (kinds_answer rows zs n ≡ Err (Denom j) → ⊥) → ⊥
     go true d r = kind_not (row_at rows n) (part n zs) n j (sym (ap (λ (a : Expanded). or_else a (kind_answer (row_at rows n) (part n zs) n)) (done_is (kinds_answer rows zs n) d)) ∙ e)
     go false d r = r (sym (stops (kinds_answer rows zs n) (kind_answer (row_at rows n) (part n zs) n) d) ∙ e)
 
@@ -104,7 +104,7 @@ denom_exactly k row zs s t j = (
   λ (p, q, o, z). ap reply_of (sym (says_denom k row zs s t p q (odd_row_lem row o))) ∙ ap (λ (n : ℕ). 12 ∷ n ∷ []) (sym z),
 )
   where
-    go : (a b c : Bool) → lent_right k row (length zs) s t ≡ a → row_allowed k row ≡ b → odd_row row ≡ c → reply_of (cond a (cond b (cond c (Denom k) (kind_answer row zs k)) (Row k)) Lent) ≡ 12 ∷ j ∷ []
+    go : (a b c : Bool) → lent_right k row (length zs) s t ≡ a → row_allowed k row ≡ b → odd_row row ≡ c → reply_of (cond a (cond b (cond c (Err (Denom k)) (kind_answer row zs k)) (Err (Row k))) (Err Lent)) ≡ 12 ∷ j ∷ []
         → (lent_right k row (length zs) s t ≡ true) × (row_allowed k row ≡ true) × Odd row × (j ≡ k)
     go true true true p q r e = (p, q, row_odd row r, sym (ap (λ (l : List ℕ). get_or l 1 0) e))
     go true true false p q r e = absurd (kind_not row zs k j (denom_only (kind_answer row zs k) j e))
@@ -145,7 +145,7 @@ set_denom_exactly rows zs s t k = (
 )
   where
     go : (a b c : Bool) → set_lent rows (length zs) s t ≡ a → ltb (row_fault rows) 17 ≡ b → ltb (denom_fault rows) 17 ≡ c
-        → reply_of (cond a (cond b (Row (row_fault rows)) (cond c (Denom (denom_fault rows)) (kinds_answer rows zs 17))) Lent) ≡ 12 ∷ k ∷ []
+        → reply_of (cond a (cond b (Err (Row (row_fault rows))) (cond c (Err (Denom (denom_fault rows))) (kinds_answer rows zs 17))) (Err Lent)) ≡ 12 ∷ k ∷ []
         → (set_lent rows (length zs) s t ≡ true) × (check_reply (check_rows rows) ≡ 0 ∷ []) × Lowest rows k
     go true true c p q r e = absurd (differs 6 12 (row_fault rows ∷ []) (k ∷ []) refl e)
     go true false true p q r e =

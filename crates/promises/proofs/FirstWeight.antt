@@ -12,7 +12,8 @@ use lib.Ieee.{Float, nan}
 use Rattle.transform.specs.Kinds.{width_of, height_of, area_of, places_of, start_of, part}
 use Rattle.bitstream.specs.Half.{half, barred}
 use Rattle.params.specs.Allowed.{row_at, mode_at, row_allowed, check_rows, check_reply}
-use Rattle.matrix.specs.declared.Expanded.TheVariants.{Done, Weight}
+use Rattle.std.specs.Prelude.{Ok, Err}
+use Rattle.matrix.specs.declared.ExpandError.TheVariants.{Weight}
 use Rattle.transform.proofs.FirstLaws.{before_none}
 use Rattle.matrix.specs.Mirror.{passing}
 use Rattle.matrix.proofs.Passed.{stops as at_first}
@@ -38,11 +39,11 @@ some_places : 0 < places_of 0
 unfolding places_of
 some_places = lit< tt
 
-stops : (ws : List Float) → 0 < length ws → refused (get_or ws 0 nan) ≡ true → weight_answer 0 ws ≡ Weight 0 0 0
+stops : (ws : List Float) → 0 < length ws → refused (get_or ws 0 nan) ≡ true → weight_answer 0 ws ≡ Err (Weight 0 0 0)
 unfolding weight_answer area_of
 stops ws h e =
-    ap (λ (n : ℕ). cond (ltb n (length ws)) (Weight 0 (n / area_of 0) (n % area_of 0)) Done) (sym (at_first ws 0 (before_none (passing ws)) h e))
-    ∙ ap (λ (b : Bool). cond b (Weight 0 0 0) Done) (lt-ltb 0 (length ws) h)
+    ap (λ (n : ℕ). cond (ltb n (length ws)) (Err (Weight 0 (n / area_of 0) (n % area_of 0))) (Ok tt)) (sym (at_first ws 0 (before_none (passing ws)) h e))
+    ∙ ap (λ (b : Bool). cond b (Err (Weight 0 0 0)) (Ok tt)) (lt-ltb 0 (length ws) h)
 
 -- ---- the kind's row and samples
 module _ (row : List ℕ) (zs : List ℤ) (d : ℕ) (z : ℤ) (raw : get_or row 0 0 ≡ 7) (denominator : get_or row 3 0 ≡ d) (first : get_or zs 0 (pos 0) ≡ z) where
@@ -50,7 +51,7 @@ module _ (row : List ℕ) (zs : List ℤ) (d : ℕ) (z : ℤ) (raw : get_or row 
   unfolding width_of height_of area_of
   place_first = raw_straight 0 0 0 0 (lit< tt) (lit< tt) (lit< tt) row zs raw ∙ ap (λ (e : ℕ). weight_of (half e) (get_or zs 0 (pos 0))) denominator ∙ ap (weight_of (half d)) first
 
-  refuses : row_allowed 0 row ≡ true → refused (weight_of (half d) z) ≡ true → Weight 0 0 0 ≡ kind_answer row zs 0
+  refuses : row_allowed 0 row ≡ true → refused (weight_of (half d) z) ≡ true → Err (Weight 0 0 0) ≡ kind_answer row zs 0
   refuses ok e =
       sym (stops (weights_of row zs 0) (lt_of_lt_of_le some_places (le_of_eq (sym (weights_length row zs 0)))) (ap refused place_first ∙ e))
       ∙ raw_answer 0 row zs (facts 0 row ok) raw
@@ -84,7 +85,7 @@ module _ (rows : List ℕ) (zs : List ℤ) (d : ℕ) (z : ℤ) (b : Begins rows 
   unfolding kinds_answer
   set_refused s t lent checked above e =
       let fault = (done_fault rows checked).1 in
-      sym (ap reply_of (stops_answer rows zs 0 (Weight 0 0 0) refl (refuses (row_at rows 0) (part 0 zs) d z own_mode own_denominator own_first (rows_fine rows fault 0 (lit< tt)) e) refl (lit< tt)
+      sym (ap reply_of (stops_answer rows zs 0 (Err (Weight 0 0 0)) refl (refuses (row_at rows 0) (part 0 zs) d z own_mode own_denominator own_first (rows_fine rows fault 0 (lit< tt)) e) refl (lit< tt)
       ∙ says_kinds rows zs s t lent fault (no_odd rows above)))
 
 -- ---- by itself

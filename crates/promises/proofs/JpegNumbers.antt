@@ -7,7 +7,8 @@ use lib.ListN.{get_or}
 use lib.Ieee.{round, div}
 use Rattle.bitstream.specs.Half.{half}
 use Rattle.params.specs.Allowed.{row_at, mode_at, row_allowed}
-use Rattle.dequant.specs.declared.jpeg.Jpeg.TheVariants.{Done, None}
+use Rattle.std.specs.Prelude.{Ok, Err}
+use Rattle.dequant.specs.declared.jpeg.JpegError.TheVariants.{None}
 use Rattle.dequant.specs.Jpeg.{jpeg_numbers, rounds_to, jpeg_denominator, jpeg_lent, jpeg_answer}
 use Rattle.dequant.proofs.JpegLaws.{says_raw}
 
@@ -30,7 +31,7 @@ pub record Asked (rows : List ℕ) (n c d : ℕ) : Type 0 where
   pub raw : mode_at rows 0 ≡ 7
   pub denominator : get_or rows 3 0 ≡ d
 
-answer : (rows : List ℕ) (n c d : ℕ) (b : Bool) → Asked rows n c d → jpeg_denominator d ≡ b → jpeg_numbers (jpeg_answer rows n c) ≡ jpeg_numbers (cond b Done None)
+answer : (rows : List ℕ) (n c d : ℕ) (b : Bool) → Asked rows n c d → jpeg_denominator d ≡ b → jpeg_numbers (jpeg_answer rows n c) ≡ jpeg_numbers (cond b (Ok tt) (Err None))
 answer rows n c d b a e = ap jpeg_numbers (sym (says_raw rows n c a.lent a.fine b a.raw (sym (ap jpeg_denominator a.denominator ∙ e))))
 
 pub p8 : (rows : List ℕ) (n c : ℕ) → Asked rows n c 0x1004 → jpeg_numbers (jpeg_answer rows n c) ≡ 0 ∷ []

@@ -8,14 +8,15 @@ use lib.ListN.{length, get_or, set, replicate}
 use lib.Dec.{lit≤, leb, eqb}
 use Rattle.bitstream.specs.Bits.{read_bits}
 use Rattle.bitstream.specs.Half.{barred}
-use Rattle.bitstream.specs.declared.Bits.{Bits}
-use Rattle.bitstream.specs.declared.Bits.TheVariants as bits
+use Rattle.std.specs.Prelude.{Result, Ok, Err}
+use Rattle.bitstream.specs.declared.Found.{Found}
+use Rattle.bitstream.specs.declared.Short as bits
 use Rattle.bitstream.proofs.Laws.{value_next, value_lt}
-use Rattle.params.specs.declared.read.Reading.{Reading}
-use Rattle.params.specs.declared.read.Reading.TheVariants.{Done, Lent, Short, Mode, Float, Raw}
+use Rattle.params.specs.declared.read.Stop.TheVariants.{Done, Raw}
+use Rattle.params.specs.declared.read.HeaderError.TheVariants.{Lent}
 use Rattle.params.specs.Row.{Hand, on, short, mode, float, number_is, number, numbers, list_is, band_list, band_lists, fixed, lists, allowed, entry_is, entry}
 use Rattle.promises.proofs.ByNumber.{read_done}
-use Rattle.params.specs.Header.{reply_of, Outcome, gives, kind_is, after, kinds, flag_is, read_header}
+use Rattle.params.specs.Header.{Reading, reply_of, Outcome, gives, kind_is, after, kinds, flag_is, read_header}
 
 -- the next bit, or 0 after a refusal
 abbrev bit_of : Hand → ℕ
@@ -32,9 +33,9 @@ number_bits b (on p s row) = go (read_bits b p 16) refl
     pick true v q e = omega arith
     pick false v q e = omega arith
 
-    go : (r : Bits) → read_bits b p 16 ≡ r → bit_of (number_is p s row r) ≤ p + 16
-    go (bits.Short l) e = omega arith
-    go (bits.Value v q) e = pick (barred v) v q (value_next b p 16 v q e)
+    go : (r : Result Found bits.Short) → read_bits b p 16 ≡ r → bit_of (number_is p s row r) ≤ p + 16
+    go (Err x) e = omega arith
+    go (Ok f) e = pick (barred f.value) f.value f.next (value_next b p 16 f e)
 number_bits b (short p l) = omega arith
 number_bits b (mode p) = omega arith
 number_bits b (float p) = omega arith
@@ -48,10 +49,10 @@ list_bits : (b : List ℕ) (i : ℕ) (h : Hand) → bit_of (band_list b i h) ≤
 unfolding band_list
 list_bits b i (on p s row) = go (read_bits b p 4) refl
   where
-    go : (r : Bits) → read_bits b p 4 ≡ r → bit_of (list_is b i p s row r) ≤ p + 772
-    go (bits.Short l) e = omega arith
-    go (bits.Value v q) e =
-        omega (arith, value_next b p 4 v q e, value_lt b p 4 v q e, numbers_bits b (3 * (v + 1)) (on q s (set row i (v + 1))))
+    go : (r : Result Found bits.Short) → read_bits b p 4 ≡ r → bit_of (list_is b i p s row r) ≤ p + 772
+    go (Err x) e = omega arith
+    go (Ok f) e =
+        omega (arith, value_next b p 4 f e, value_lt b p 4 f e, numbers_bits b (3 * (f.value + 1)) (on f.next s (set row i (f.value + 1))))
 list_bits b i (short p l) = omega arith
 list_bits b i (mode p) = omega arith
 list_bits b i (float p) = omega arith
@@ -111,23 +112,20 @@ entry_bits b kind p = go (read_bits b p 3) refl
         omega (arith, lists_bits b (lists m) 1 (numbers b (fixed m) h), numbers_bits b (fixed m) h, shape_bits kind m a)
     pick false m q a e = omega arith
 
-    go : (r : Bits) → read_bits b p 3 ≡ r → bit_of (entry_is b kind p r) ≤ p + longest kind
-    go (bits.Short l) e = omega arith
-    go (bits.Value m q) e = pick (allowed kind m) m q refl (value_next b p 3 m q e)
+    go : (r : Result Found bits.Short) → read_bits b p 3 ≡ r → bit_of (entry_is b kind p r) ≤ p + longest kind
+    go (Err x) e = omega arith
+    go (Ok f) e = pick (allowed kind f.value) f.value f.next refl (value_next b p 3 f e)
 
 -- the next bit of a reading that is done, or 0
 abbrev next_of : Reading → ℕ
-next_of (Done p) = p
-next_of Lent = 0
-next_of (Short k p l) = 0
-next_of (Mode k p) = 0
-next_of (Float k p) = 0
-next_of (Raw k p) = 0
+next_of (Ok (Done p)) = p
+next_of (Ok (Raw k p)) = 0
+next_of (Err e) = 0
 
 kind_bits : (kind : ℕ) (rows : List ℕ) (h : Hand) → next_of (kind_is kind rows h).answer ≤ bit_of h
 kind_bits kind rows (on p s row) = go (eqb (get_or row 0 0) 7)
   where
-    go : (t : Bool) → next_of (cond t (Raw kind p) (Done p)) ≤ p
+    go : (t : Bool) → next_of (Ok (cond t (Raw kind p) (Done p))) ≤ p
     go true = omega arith
     go false = omega arith
 kind_bits kind rows (short p l) = omega arith
@@ -135,12 +133,9 @@ kind_bits kind rows (mode p) = omega arith
 kind_bits kind rows (float p) = omega arith
 
 after_bits : (b : List ℕ) (kind : ℕ) (r : Reading) (rows : List ℕ) → next_of (after b kind r rows).answer ≤ next_of r + longest kind
-after_bits b kind (Done p) rows = omega (arith, kind_bits kind rows (entry b kind p), entry_bits b kind p)
-after_bits b kind Lent rows = omega arith
-after_bits b kind (Short k p l) rows = omega arith
-after_bits b kind (Mode k p) rows = omega arith
-after_bits b kind (Float k p) rows = omega arith
-after_bits b kind (Raw k p) rows = omega arith
+after_bits b kind (Ok (Done p)) rows = omega (arith, kind_bits kind rows (entry b kind p), entry_bits b kind p)
+after_bits b kind (Ok (Raw k p)) rows = omega arith
+after_bits b kind (Err e) rows = omega arith
 
 abbrev total : ℕ → ℕ → ℕ
 total zero kind = 0
@@ -157,14 +152,14 @@ unfolding read_header
 longest_header b p q rows e = omega (arith, ap next_of (read_done (read_header b p 0 rows).answer q e), go (eqb (length rows) 2176))
   where
     pick : (t : Bool) (k : ℕ) → k ≡ p + 1
-        → next_of (cond t (gives (Done k) (set (replicate 2176 0) 126 1)) (kinds b 17 0 (gives (Done k) rows))).answer ≤ p + 20400
+        → next_of (cond t (gives (Ok (Done k)) (set (replicate 2176 0) 126 1)) (kinds b 17 0 (gives (Ok (Done k)) rows))).answer ≤ p + 20400
     pick true k e = omega arith
-    pick false k e = omega (arith, kinds_bits b 17 0 (gives (Done k) rows))
+    pick false k e = omega (arith, kinds_bits b 17 0 (gives (Ok (Done k)) rows))
 
-    flag : (r : Bits) → read_bits b p 1 ≡ r → next_of (flag_is b p rows r).answer ≤ p + 20400
-    flag (bits.Short l) e = omega arith
-    flag (bits.Value v k) e = pick (eqb v 1) k (value_next b p 1 v k e)
+    flag : (r : Result Found bits.Short) → read_bits b p 1 ≡ r → next_of (flag_is b p rows r).answer ≤ p + 20400
+    flag (Err x) e = omega arith
+    flag (Ok f) e = pick (eqb f.value 1) f.next (value_next b p 1 f e)
 
-    go : (t : Bool) → next_of (cond t (flag_is b p rows (read_bits b p 1)) (gives Lent rows)).answer ≤ p + 20400
+    go : (t : Bool) → next_of (cond t (flag_is b p rows (read_bits b p 1)) (gives (Err Lent) rows)).answer ≤ p + 20400
     go true = flag (read_bits b p 1) refl
     go false = omega arith

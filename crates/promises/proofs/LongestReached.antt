@@ -8,8 +8,9 @@ use lib.ListN.{length, get_or, replicate}
 use lib.Dec.{T, eqb, lit≤}
 use lib.Pow.{are_bytes}
 use Rattle.bitstream.proofs.Bytes.{bytes_of, length_bytes_of, bytes_of_bytes}
-use Rattle.params.specs.declared.read.Reading.TheVariants.{Done, Raw}
-use Rattle.params.specs.Header.{reply_of, Outcome, gives, put_row, kind_is, after, kinds, read_header}
+use Rattle.std.specs.Prelude.{Ok}
+use Rattle.params.specs.declared.read.Stop.TheVariants.{Done, Raw}
+use Rattle.params.specs.Header.{Reading, reply_of, Outcome, gives, put_row, kind_is, after, kinds, read_header}
 use Rattle.params.proofs.Written.{Field, bits, span, Spells, Sized, numbers_of, Fine, row_of, Bands, Written, one, two}
 use Rattle.promises.proofs.Shape.{spells_left, spells_right, span_append}
 use Rattle.params.proofs.SetLaws.{header_all}
@@ -20,31 +21,35 @@ use Rattle.promises.proofs.RowRule.{small_same, modes_open, sized_numbers, sized
 
 -- ---- a header whose entries are all written rows, none raw, is read to its end
 
+-- read to its end, with the next bit
+abbrev ended : ℕ → Reading
+ended p = Ok (Done p)
+
 -- the fields of n kinds, from one on
 abbrev pub fields_from : (ℕ → List Field) → ℕ → ℕ → List Field
 fields_from f zero kind = []
 fields_from f (suc n) kind = f kind ++ fields_from f n (kind + 1)
 
 module _ (b : List ℕ) (row : ℕ → List ℕ) (f : ℕ → List Field) (w : (kind : ℕ) → kind < 17 → Written kind (row kind) (f kind)) (plain' : (kind : ℕ) → eqb (get_or (row kind) 0 0) 7 ≡ false) where
-  pub kinds_spelt : (n kind p : ℕ) (rows : List ℕ) → kind + n ≤ 17 → Spells b p (fields_from f n kind) → (kinds b n kind (gives (Done p) rows)).answer ≡ Done (p + span (fields_from f n kind))
+  pub kinds_spelt : (n kind p : ℕ) (rows : List ℕ) → kind + n ≤ 17 → Spells b p (fields_from f n kind) → (kinds b n kind (gives (ended p) rows)).answer ≡ ended (p + span (fields_from f n kind))
   unfolding kinds
-  kinds_spelt zero kind p rows h s = ap Done (omega arith)
+  kinds_spelt zero kind p rows h s = ap ended (omega arith)
   kinds_spelt (suc n) kind p rows h s =
       let e = entry_spelt b kind p (row kind) (f kind) (w kind (omega arith)) (spells_left b p (f kind) (fields_from f n (kind + 1)) s) in
       let q = p + span (f kind) in
-      let is : after b kind (Done p) rows ≡ gives (Done q) (put_row rows kind (row kind)) =
-      ap (kind_is kind rows) e.1 ∙ ap (λ (t : Bool). gives (cond t (Raw kind q) (Done q)) (put_row rows kind (row kind))) (plain' kind) in
+      let is : after b kind (ended p) rows ≡ gives (ended q) (put_row rows kind (row kind)) =
+      ap (kind_is kind rows) e.1 ∙ ap (λ (t : Bool). gives (Ok (cond t (Raw kind q) (Done q))) (put_row rows kind (row kind))) (plain' kind) in
       ap (λ (o : Outcome). (kinds b n (kind + 1) o).answer) is
       ∙ kinds_spelt n (kind + 1) q (put_row rows kind (row kind)) (omega arith) (spells_right b p (f kind) (fields_from f n (kind + 1)) s)
-      ∙ ap Done (omega (arith, span_append (f kind) (fields_from f n (kind + 1))))
+      ∙ ap ended (omega (arith, span_append (f kind) (fields_from f n (kind + 1))))
 
   -- a flag of 0 before them, and all of it in n whole bytes
   pub header_spelt : (n : ℕ) → 1 + span (fields_from f 17 0) ≡ 8 * n → 8 * n < 2 ^ 64 → b ≡ bytes_of n (number_of (bits 1 0 ∷ fields_from f 17 0)) → Sized (fields_from f 17 0)
-      → (rows : List ℕ) → length rows ≡ 2176 → (read_header b 0 0 rows).answer ≡ Done (8 * n)
+      → (rows : List ℕ) → length rows ≡ 2176 → (read_header b 0 0 rows).answer ≡ ended (8 * n)
   header_spelt n e h i z rows l =
       let fs = fields_from f 17 0 in
       let t = subst (λ (x : List ℕ). Spells x 0 (bits 1 0 ∷ fs)) (sym i) (spelt n (number_of (bits 1 0 ∷ fs)) 0 (bits 1 0 ∷ fs) (lit≤ tt, z) (omega arith) (omega arith) (omega arith)) in
-      ap (λ (o : Outcome). o.answer) (header_all b 0 0 rows refl l 0 1 t.0 (λ j. omega arith)) ∙ kinds_spelt 17 0 1 rows (lit≤ tt) t.1 ∙ ap Done e
+      ap (λ (o : Outcome). o.answer) (header_all b 0 0 rows refl l _ t.0 (λ j. omega arith)) ∙ kinds_spelt 17 0 1 rows (lit≤ tt) t.1 ∙ ap ended e
 
 -- ---- the longest one
 

@@ -5,9 +5,10 @@ use mathlib.Core.List.{List, [], ◌∷◌, ◌++◌}
 use Prim.Native.Nat.{ℕ, zero, suc, ◌+◌, ◌-◌, ◌*◌, ◌≤◌}
 use native.Mathlib.Omega.{arith}
 use lib.ListN.{length, set, replicate, length-append}
-use Rattle.bitstream.specs.Bits.{read_bits}
-use Rattle.bitstream.specs.declared.Bits.{Bits}
-use Rattle.bitstream.specs.declared.Bits.TheVariants.{Value, Short}
+use Rattle.bitstream.specs.Bits.{found, read_bits}
+use Rattle.std.specs.Prelude.{Result, Ok, Err}
+use Rattle.bitstream.specs.declared.Found.{Found}
+use Rattle.bitstream.specs.declared.Short.{Short}
 use Rattle.bitstream.proofs.Laws.{value_next}
 use Rattle.params.specs.Row.{Hand, on, short, mode, float, numbers, band_list, band_lists, fixed, lists, allowed, entry_is, entry}
 use Rattle.params.proofs.Written.{Field, bits, span, Spells, numbers_of, Written, plain, one, two}
@@ -46,7 +47,7 @@ sums : (p n c d la lx ly t : ℕ) → la ≡ n → lx ≡ 3 * c → ly ≡ 3 * d
     → p + 3 + 16 * n + 4 + 16 * (3 * c) + 4 + 16 * (3 * d) ≡ p + (3 + t)
 sums p n c d la lx ly t e f g h = omega arith
 
-module _ (b : List ℕ) (kind p m : ℕ) (allow : allowed kind m ≡ true) (r : read_bits b p 3 ≡ Value m (p + 3)) where
+module _ (b : List ℕ) (kind p m : ℕ) (allow : allowed kind m ≡ true) (r : read_bits b p 3 ≡ found m (p + 3)) where
   abbrev start : Hand
   start = shaped (p + 3) m 0 0 []
 
@@ -116,16 +117,16 @@ pub entry_read : (b : List ℕ) (kind p q s : ℕ) (row : List ℕ) → entry b 
 unfolding entry
 entry_read b kind p q s row e = go (read_bits b p 3) refl e
   where
-    pick : (t : Bool) (m k : ℕ) → allowed kind m ≡ t → read_bits b p 3 ≡ Value m k
+    pick : (t : Bool) (m k : ℕ) → allowed kind m ≡ t → read_bits b p 3 ≡ found m k
         → cond t (band_lists b (lists m) 1 (numbers b (fixed m) (on k 3 (set (replicate 128 0) 0 m)))) (mode p) ≡ on q s row → Read b kind p q row
     pick true m k a r g =
-        let next : k ≡ p + 3 = value_next b p 3 m k r in
+        let next : k ≡ p + 3 = value_next b p 3 _ r in
         lists_read b kind p m a (rw next at r) (lists m) q s row refl (subst (λ (z : ℕ). band_lists b (lists m) 1 (numbers b (fixed m) (on z 3 (set (replicate 128 0) 0 m))) ≡ on q s row) next g)
     pick false m k a r g = let z : ◌≡◌ {A = ℕ} 0 1 = cc in absurd (omega arith)
 
-    go : (r : Bits) → read_bits b p 3 ≡ r → entry_is b kind p r ≡ on q s row → Read b kind p q row
-    go (Short l) r g = let z : ◌≡◌ {A = ℕ} 0 1 = cc in absurd (omega arith)
-    go (Value m k) r g = pick (allowed kind m) m k refl r g
+    go : (r : Result Found Short) → read_bits b p 3 ≡ r → entry_is b kind p r ≡ on q s row → Read b kind p q row
+    go (Err x) r g = let z : ◌≡◌ {A = ℕ} 0 1 = cc in absurd (omega arith)
+    go (Ok f) r g = pick (allowed kind f.value) f.value f.next refl r g
 
 -- what is spelt is read
 pub entry_spelt : (b : List ℕ) (kind p : ℕ) (row : List ℕ) (fs : List Field) → Written kind row fs → Spells b p fs
@@ -133,7 +134,7 @@ pub entry_spelt : (b : List ℕ) (kind p : ℕ) (row : List ℕ) (fs : List Fiel
 unfolding band_lists
 entry_spelt b kind p row fs (plain m a l o) w = (
   3 + length a,
-  entry_on b kind p m (p + 3) w.0 o.allows
+  entry_on b kind p _ w.0 o.allows
       ∙ ap (λ (n : ℕ). band_lists b n 1 (numbers b (fixed m) (shaped (p + 3) m 0 0 []))) l
       ∙ ap (λ (n : ℕ). numbers b n (shaped (p + 3) m 0 0 [])) (sym o.count)
       ∙ numbers_spelt b a (p + 3) m 0 0 [] (omega (arith, shape_fits m, o.count)) o.fine w.1
@@ -145,7 +146,7 @@ entry_spelt b kind p row fs (one m c a x l o f) w =
     let xs : List Field = bits 4 (c - 1) ∷ numbers_of x in
     let rest : Spells b k xs = subst (λ (z : ℕ). Spells b z xs) at (spells_right b (p + 3) (numbers_of a) xs w.1) in (
       3 + length (a ++ x),
-      entry_on b kind p m (p + 3) w.0 o.allows
+      entry_on b kind p _ w.0 o.allows
           ∙ ap (λ (n : ℕ). band_lists b n 1 (numbers b (fixed m) (shaped (p + 3) m 0 0 []))) l
           ∙ ap (λ (n : ℕ). band_list b 1 (numbers b n (shaped (p + 3) m 0 0 []))) (sym o.count)
           ∙ ap (band_list b 1) (numbers_spelt b a (p + 3) m 0 0 [] (omega (arith, shape_fits m, o.count)) o.fine (spells_left b (p + 3) (numbers_of a) xs w.1))
@@ -163,7 +164,7 @@ entry_spelt b kind p row fs (two m c d a x y l o f g) w =
     let last : Spells b j ys = subst (λ (z : ℕ). Spells b z ys) on' (spells_right b k xs ys rest) in
     let room : length (a ++ x) + 48 ≤ 125 = rw length-append (omega (arith, shape_fits m, o.count, f.count, f.few)) in (
       3 + length ((a ++ x) ++ y),
-      entry_on b kind p m (p + 3) w.0 o.allows
+      entry_on b kind p _ w.0 o.allows
           ∙ ap (λ (n : ℕ). band_lists b n 1 (numbers b (fixed m) (shaped (p + 3) m 0 0 []))) l
           ∙ ap (λ (n : ℕ). band_list b 2 (band_list b 1 (numbers b n (shaped (p + 3) m 0 0 [])))) (sym o.count)
           ∙ ap (λ (h : Hand). band_list b 2 (band_list b 1 h)) (numbers_spelt b a (p + 3) m 0 0 [] (omega (arith, shape_fits m, o.count)) o.fine (spells_left b (p + 3) (numbers_of a) (xs ++ ys) w.1))

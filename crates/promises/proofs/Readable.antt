@@ -4,8 +4,7 @@ use mathlib.Core.List.{List, [], ◌∷◌}
 use Prim.Native.Nat.{ℕ, ◌+◌, ◌*◌, ◌/◌, ◌%◌, ◌^◌, ◌≤◌, ◌<◌}
 use native.Mathlib.Omega.{arith}
 use lib.Pow.{shr-shr, high, low}
-use Rattle.bitstream.specs.Bits.{field}
-use Rattle.bitstream.specs.declared.Bits.TheVariants.{Value}
+use Rattle.bitstream.specs.Bits.{field, found}
 use Rattle.bitstream.proofs.Laws.{read_in, value_lt}
 use Rattle.bitstream.proofs.Bytes.{bytes_of, length_bytes_of, field_at}
 use Rattle.params.specs.Row.{on, entry}
@@ -23,13 +22,13 @@ spelt n x p (f ∷ fs) z e h k =
     let w = f.width in
     let is : field (bytes_of n x) p w ≡ f.value = field_at n x p w (omega arith) ∙ ap (λ (y : ℕ). y % 2 ^ w) e ∙ low (number_of fs) w z.0 in
     let next : x / 2 ^ (p + w) ≡ number_of fs = sym (shr-shr x p w) ∙ ap (λ (y : ℕ). y / 2 ^ w) e ∙ high (number_of fs) w z.0 in (
-      read_in (bytes_of n x) p w (omega (arith, length_bytes_of n x)) ∙ ap (λ (y : ℕ). Value y (p + w)) is,
+      read_in (bytes_of n x) p w (omega (arith, length_bytes_of n x)) ∙ ap (λ (y : ℕ). found y (p + w)) is,
       spelt n x (p + w) fs z.1 next (omega arith) (omega arith),
     )
 
 sized : (b : List ℕ) (p : ℕ) (fs : List Field) → Spells b p fs → Sized fs
 sized b p [] l = tt
-sized b p (f ∷ fs) l = (value_lt b p f.width f.value (p + f.width) l.0, sized b (p + f.width) fs l.1)
+sized b p (f ∷ fs) l = (value_lt b p f.width _ l.0, sized b (p + f.width) fs l.1)
 
 -- a row that is read is one that `Written` gives, with fields that bits can spell
 pub read_written : (b : List ℕ) (kind p q s : ℕ) (row : List ℕ) → entry b kind p ≡ on q s row → (fs : List Field) × Written kind row fs × Sized fs

@@ -17,7 +17,8 @@ use Rattle.record.specs.Format.{pick}
 use Rattle.params.specs.Raw.{is_raw, any_raw, samples_lent}
 use Rattle.params.proofs.RawLaws.{lent_some}
 use Rattle.record.specs.Description.{raw_parts, record_of, Allowed, store_parts}
-use Rattle.record.specs.declared.reader.Taken.TheVariants as takes
+use Rattle.std.specs.Prelude.{Ok, Err}
+use Rattle.record.specs.declared.reader.ReadError.TheVariants as reads
 use Rattle.record.specs.Replies.{taken_reply, read_is, read_answer, rows_left, samples_left, rows_after, samples_after}
 use Rattle.record.proofs.SetStores.{lent_raw}
 use Rattle.params.specs.Allowed.{mode_at}
@@ -91,11 +92,11 @@ no_part k l e = let h : length l ≤ start_of k = omega (arith, e) in ap (take (
 
 -- an allowed description; rows of the length named, and samples as many as it needs: 394,752, or none if no row is raw
 module _ (r : List ℕ) (s : List ℤ) (a : Allowed r s) (rows : List ℕ) (arena : List ℤ) (n : length rows ≡ 2176) (l : samples_lent r (length arena) ≡ true) where
-  answer : read_answer (length rows) (length arena) (record_of r s) ≡ takes.Done
+  answer : read_answer (length rows) (length arena) (record_of r s) ≡ Ok tt
   unfolding read_answer
   answer =
       rw (eq-eqb (length rows) 2176 n, named r (length arena) l)
-      (ap (read_is (length arena)) (record_read r s a) ∙ ap (λ (b : Bool). pick b (takes.Room 394752) takes.Done) (enough r (length arena) l))
+      (ap (read_is (length arena)) (record_read r s a) ∙ ap (λ (b : Bool). pick b (Err (reads.Room 394752)) (Ok tt)) (enough r (length arena) l))
 
   pub back_answer : taken_reply (read_answer (length rows) (length arena) (record_of r s)) ≡ 0 ∷ []
   back_answer = ap taken_reply answer

@@ -16,7 +16,7 @@ use Rattle.transform.specs.First.{before}
 use Rattle.transform.proofs.FirstLaws.{before_every}
 use Rattle.params.specs.Allowed.{row_at, mode_at, entry_row, flag_row, row_allowed, flag_fault, row_fault}
 use Rattle.params.specs.Header.{all_default}
-use Rattle.params.proofs.FaultLaws.{allowed_entry, fault_rows}
+use Rattle.params.proofs.FaultLaws.{allowed_entry, flag_none, fault_rows}
 use Rattle.record.specs.Format.{pick, seqs}
 use Rattle.record.specs.Record.{header, sample_count}
 use Rattle.record.specs.Rows.{Row, row_format, row_formats, all_kinds, kind_lines, rows_format}
@@ -194,7 +194,7 @@ module _ (rows : List ℕ) (vs : List (List ℤ)) (count : length vs ≡ 17) (lo
     bits = each_of (λ v. v < 65536) 0 rows bit;
     fits = store_fits 0 vs none (each_of (Each fits32) [] vs fit) (each_zeros 394752);
     lent = sym (lent_else rows (store_parts 0 vs none) long true (all_samples rows (length (store_parts 0 vs none)) (store_long 0 vs none ∙ length-replicate 394752 (pos 0))));
-    row = sym (fault_rows rows f) ∙ before_every (λ k. row_allowed k (row_at rows k)) 17 (λ k h. sym (allowed_entry k (row_at rows k) (omega arith) (row_passes k (row_at rows k) (get_or vs k []) (row k h))));
+    row = fault_rows rows (flag_none rows f) ∙ before_every (λ k. row_allowed k (row_at rows k)) 17 (λ k h. sym (allowed_entry k (row_at rows k) (omega arith) (row_passes k (row_at rows k) (get_or vs k []) (row k h))));
   }
 
 -- ---- a whole set

@@ -5,7 +5,7 @@ use mathlib.Core.Bool.{Bool, true, false, ◌&&◌, ◌||◌}
 use Prim.Native.Nat.{ℕ, zero, suc, ◌+◌, ◌*◌, ◌-◌, ◌/◌, ◌%◌, ◌≤◌, ◌<◌}
 use native.Mathlib.Omega.{arith}
 use native.Mathlib.Decide.{ℕ_discrete, dec_lt}
-use borrow.Author.Tests.{ne_eqb, eqb-true}
+use borrow.Author.Tests.{ne_eqb, eqb-true, lt-ltb, le-ltb}
 use lib.IntN.{ℤ}
 use lib.ListN.{length, get_or, take, drop, replicate, length-set, length-replicate, get_or-replicate}
 use lib.Seq.{ext_get_or, get_or-take, get_or-drop, get_or-set_same, get_or-set_other}
@@ -18,7 +18,7 @@ use Rattle.params.specs.Allowed.{entry_row, flag_row, row_allowed, row_at, mode_
 use Rattle.transform.specs.Zeros.{all_zero}
 use Rattle.params.specs.Header.{all_default}
 use Rattle.params.proofs.AllowedLaws.{and_true}
-use Rattle.params.proofs.FaultLaws.{fault_flag, fault_modes}
+use Rattle.params.proofs.FaultLaws.{flag_mode, fault_flag, fault_rows}
 use Rattle.record.specs.Record.{number_count, sample_count}
 use Rattle.record.specs.Rows.{Row, row_format}
 use Rattle.record.specs.Description.{Each}
@@ -55,14 +55,14 @@ module _ (rows : List ℕ) (samples : List ℤ) (a : Checked rows samples) (e : 
   zeros = go (dec_lt (before (λ kind. eqb (mode_at rows kind) 0) 17) 17)
     where
       go : Dec (before (λ kind. eqb (mode_at rows kind) 0) 17 < 17) → 17 ≤ before (λ kind. eqb (mode_at rows kind) 0) 17
-      go (yes l) = absurd (omega (arith, fault_flag rows e l, a.row))
+      go (yes l) = absurd (omega (arith, fault_flag rows (flag_mode rows true e (sym (lt-ltb (before (λ kind. eqb (mode_at rows kind) 0) 17) 17 l))), a.row))
       go (no l) = omega arith
 
   pub mode_zero : (k : ℕ) → k < 17 → mode_at rows k ≡ 0
   mode_zero k h = eqb-true (mode_at rows k) 0 (before_each (λ kind. eqb (mode_at rows kind) 0) 17 zeros k h)
 
   passes : (k : ℕ) → k < 17 → row_allowed k (row_at rows k) ≡ true
-  passes k h = before_each (λ i. row_allowed i (row_at rows i)) 17 (le_of_eq (sym (fault_modes rows e zeros ∙ a.row))) k h
+  passes k h = before_each (λ i. row_allowed i (row_at rows i)) 17 (le_of_eq (sym a.row ∙ fault_rows rows (flag_mode rows false e (sym (le-ltb (before (λ kind. eqb (mode_at rows kind) 0) 17) 17 zeros))))) k h
 
   first_zero : (k : ℕ) → k < 17 → get_or (row_at rows k) 0 0 ≡ 0
   first_zero k h = row_first rows k 0 (omega arith) ∙ ap (λ (i : ℕ). get_or rows i 0) (native.Mathlib.Nat.add-zero (k * 128)) ∙ mode_zero k h

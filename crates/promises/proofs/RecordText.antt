@@ -12,9 +12,9 @@ use Rattle.params.specs.Raw.{any_raw}
 use Rattle.record.specs.Format.{pick, shared, Longest, Reading, done, text, whole}
 use Rattle.record.specs.Flat.{Flat, flat_format}
 use Rattle.record.specs.Description.{describe, record_of, Allowed}
-use Rattle.record.specs.declared.reader.Taken.{Taken}
-use Rattle.record.specs.declared.reader.Taken.TheVariants as takes
-use Rattle.record.specs.Replies.{taken_reply, read_lent, read_is, read_answer}
+use Rattle.std.specs.Prelude.{Ok, Err}
+use Rattle.record.specs.declared.reader.ReadError.TheVariants as reads
+use Rattle.record.specs.Replies.{Taken, taken_reply, read_lent, read_is, read_answer}
 use Rattle.promises.proofs.RecordWhole.{flat_lawful, whole_done, whole_text}
 use Rattle.promises.proofs.RecordAllowed.{allowed_ok}
 use Rattle.promises.proofs.RecordTheorems.{record_read}
@@ -42,7 +42,7 @@ first_apart a b v w h e = h (ap (λ (l : List ℕ). get_or l 0 0) e)
 
 -- ROOM or DONE
 abbrev kept : Bool → Taken
-kept b = pick b (takes.Room 394752) takes.Done
+kept b = pick b (Err (reads.Room 394752)) (Ok tt)
 
 room_kept : (b : Bool) → taken_reply (kept b) ≡ 9 ∷ 394752 ∷ [] → b ≡ true
 room_kept true e = refl
@@ -61,7 +61,7 @@ pub text_answer : (n l : ℕ) (t : List ℕ) (k : ℕ) → taken_reply (read_ans
 unfolding read_answer
 text_answer n l t k e = go (read_lent n l) (whole flat_format t) refl e
   where
-    go : (b : Bool) (x : Reading Flat) → whole flat_format t ≡ x → taken_reply (pick b takes.Lent (read_is l x)) ≡ 10 ∷ k ∷ [] → whole flat_format t ≡ text k
+    go : (b : Bool) (x : Reading Flat) → whole flat_format t ≡ x → taken_reply (pick b (Err reads.Lent) (read_is l x)) ≡ 10 ∷ k ∷ [] → whole flat_format t ≡ text k
     go true x h q = absurd (first_apart 1 10 [] (k ∷ []) (λ z. omega arith) q)
     go false (done f) h q = absurd (text_kept (any_raw f.0 && eqb l 0) k q)
     go false (text m) h q = h ∙ ap text (ap (λ (v : List ℕ). get_or v 1 0) q)
@@ -88,12 +88,12 @@ module _ (n l : ℕ) (t : List ℕ) (k : ℕ) (e : taken_reply (read_answer n l 
 module _ (n l : ℕ) (t : List ℕ) (named : read_lent n l ≡ false) where
   answer : read_answer n l t ≡ read_is l (whole flat_format t)
   unfolding read_answer
-  answer = ap (λ (b : Bool). pick b takes.Lent (read_is l (whole flat_format t))) named
+  answer = ap (λ (b : Bool). pick b (Err reads.Lent) (read_is l (whole flat_format t))) named
 
   of_record : (x : IsRecord t) → read_answer n l t ≡ kept (any_raw x.rows && eqb l 0)
   of_record x = answer ∙ ap (read_is l) (ap (whole flat_format) (sym x.written) ∙ record_read x.rows x.samples x.allowed)
 
-  either : {P : Type 0} → ((k : ℕ) → read_answer n l t ≡ takes.Text k → P) → (IsRecord t → P) → P
+  either : {P : Type 0} → ((k : ℕ) → read_answer n l t ≡ Err (reads.Text k) → P) → (IsRecord t → P) → P
   either {P = P} f g = go (whole flat_format t) refl
     where
       go : (x : Reading Flat) → whole flat_format t ≡ x → P

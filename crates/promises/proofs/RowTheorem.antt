@@ -15,7 +15,8 @@ use borrow.Author.Tests.{eqb-true}
 use Rattle.transform.specs.First.{before}
 use Rattle.transform.proofs.FirstLaws.{before_each}
 use Rattle.bitstream.proofs.Bytes.{bytes_of, bytes_of_bytes}
-use Rattle.params.specs.declared.read.Reading.TheVariants.{Done, Raw}
+use Rattle.std.specs.Prelude.{Ok}
+use Rattle.params.specs.declared.read.Stop.TheVariants.{Done, Raw}
 use Rattle.params.specs.Row.{on, entry}
 use Rattle.params.specs.Header.{Outcome, gives, all_default, put_row, kind_is, kinds, read_header}
 use Rattle.params.specs.Allowed.{entry_row, flag_row, row_allowed, row_at}
@@ -42,14 +43,14 @@ pub record Writes (start kind : ℕ) (row : List ℕ) : Type 0 where
 -- ---- from a row that passes to bytes
 
 -- an entry that is read whole is there when the kinds behind it are read
-row_read : (b : List ℕ) (k p q s : ℕ) (row rows : List ℕ) → k < 17 → length rows ≡ 2176 → entry b k p ≡ on q s row → row_at (kinds b (17 - k) k (gives (Done p) rows)).rows k ≡ row
+row_read : (b : List ℕ) (k p q s : ℕ) (row rows : List ℕ) → k < 17 → length rows ≡ 2176 → entry b k p ≡ on q s row → row_at (kinds b (17 - k) k (gives (Ok (Done p)) rows)).rows k ≡ row
 row_read b k p q s row rows named long e =
     ap (λ (o : Outcome). row_at o.rows k) (sym (kinds_step b k p rows (kind_is k rows (on q s row)) named (ap (kind_is k rows) (sym e))))
     ∙ stays (eqb (get_or row 0 0) 7)
     ∙ put_same rows row (entry_long b k p q s row e) k (omega arith)
   where
-    stays : (t : Bool) → row_at (kinds b (17 - (k + 1)) (k + 1) (gives (cond t (Raw k q) (Done q)) (put_row rows k row))).rows k ≡ row_at (put_row rows k row) k
-    stays true = ap (λ (o : Outcome). row_at o.rows k) (kinds_stays b (17 - (k + 1)) (k + 1) (Raw k q) (put_row rows k row) (λ i. refl))
+    stays : (t : Bool) → row_at (kinds b (17 - (k + 1)) (k + 1) (gives (Ok (cond t (Raw k q) (Done q))) (put_row rows k row))).rows k ≡ row_at (put_row rows k row) k
+    stays true = ap (λ (o : Outcome). row_at o.rows k) (kinds_stays b (17 - (k + 1)) (k + 1) (Ok (Raw k q)) (put_row rows k row) (λ i. refl))
     stays false = (kinds_leave b (17 - (k + 1)) (k + 1) q (put_row rows k row) (omega (arith, put_long rows row (entry_long b k p q s row e) k (omega arith)))).before k (omega arith)
 
 -- d kinds of mode 0, and then other fields
@@ -67,16 +68,16 @@ skips_span (suc d) fs = omega (arith, skips_span d fs)
 
 -- the kinds from `start` on, where those before `kind` are of mode 0, write the row of `kind`
 skipped : (b : List ℕ) (d start kind p : ℕ) (row rows : List ℕ) (fs : List Field) → start + d ≡ kind → kind < 17 → length rows ≡ 2176 → Written kind row fs → Spells b p (skips d fs)
-    → row_at (kinds b (17 - start) start (gives (Done p) rows)).rows kind ≡ row
+    → row_at (kinds b (17 - start) start (gives (Ok (Done p)) rows)).rows kind ≡ row
 skipped b zero start kind p row rows fs e h l w s =
     let z : start ≡ kind = omega arith in
     let x = entry_spelt b kind p row fs w s in
-    ap (λ (k : ℕ). row_at (kinds b (17 - k) k (gives (Done p) rows)).rows kind) z ∙ row_read b kind p (p + span fs) x.0 row rows h l x.1
+    ap (λ (k : ℕ). row_at (kinds b (17 - k) k (gives (Ok (Done p)) rows)).rows kind) z ∙ row_read b kind p (p + span fs) x.0 row rows h l x.1
 skipped b (suc d) start kind p row rows fs e h l w s =
     let x = entry_spelt b start p zero_row (bits 3 0 ∷ []) (zero_written start (omega arith)) (s.0, tt) in
     let put : List ℕ = put_row rows start zero_row in
     let m : length put ≡ length rows = put_long rows zero_row refl start (omega arith) in
-    ap (λ (o : Outcome). row_at o.rows kind) (sym (kinds_step b start p rows (gives (Done (p + 3)) put) (omega arith) (kind_done start rows put _ (p + 3) x.0 zero_row x.1 refl (λ i. omega arith))))
+    ap (λ (o : Outcome). row_at o.rows kind) (sym (kinds_step b start p rows (gives (Ok (Done (p + 3))) put) (omega arith) (kind_done start rows put _ (p + 3) x.0 zero_row x.1 refl (λ i. omega arith))))
     ∙ skipped b d (start + 1) kind (p + 3) row put fs (omega arith) h (m ∙ l) w s.1
 
 -- what a reading begins with: from kind 0 on, a flag of 0
@@ -94,8 +95,8 @@ opens_span (suc j) fs = omega arith
 
 -- and after it the kinds are read
 opened : (b : List ℕ) (start : ℕ) (fs : List Field) → start ≤ 16 → Spells b 0 (opens start fs)
-    → (p : ℕ) × Spells b p fs × ((rows : List ℕ) → length rows ≡ 2176 → read_header b 0 start rows ≡ kinds b (17 - start) start (gives (Done p) rows))
-opened b zero fs h t = (1, t.1, λ rows l. header_all b 0 0 rows refl l 0 1 t.0 (λ i. omega arith))
+    → (p : ℕ) × Spells b p fs × ((rows : List ℕ) → length rows ≡ 2176 → read_header b 0 start rows ≡ kinds b (17 - start) start (gives (Ok (Done p)) rows))
+opened b zero fs h t = (1, t.1, λ rows l. header_all b 0 0 rows refl l _ t.0 (λ i. omega arith))
 opened b (suc j) fs h t = (0, t, λ rows l. header_resume b 0 (suc j) rows h l (omega arith))
 
 entry_writes : (start kind : ℕ) → start ≤ kind → kind < 17 → (row : List ℕ) → Small row → entry_row kind row ≡ true → Writes start kind row
@@ -141,7 +142,7 @@ flag_writes row e =
       bytes = bytes_of 1 1;
       are = bytes_of_bytes 1 1;
       bit = 0;
-      writes = λ rows small l. ap (λ (o : Outcome). row_at o.rows 0) (header_default (bytes_of 1 1) 0 0 rows refl l 1 1 t.0 refl) ∙ sym (flag_is row e);
+      writes = λ rows small l. ap (λ (o : Outcome). row_at o.rows 0) (header_default (bytes_of 1 1) 0 0 rows refl l _ t.0 refl) ∙ sym (flag_is row e);
     }
 
 -- a row that passes is written by some reading, begun at any one kind up to it

@@ -11,8 +11,9 @@ use lib.Dec.{ltb, eqb}
 use lib.ListN.{length, get_or}
 use Rattle.transform.specs.First.{before}
 use Rattle.transform.proofs.FirstLaws.{before_stop, before_every, passed_before, fails_at}
-use Rattle.params.specs.declared.rows.RowCheck.{RowCheck}
-use Rattle.params.specs.declared.rows.RowCheck.TheVariants.{Done, Lent, Row}
+use Rattle.std.specs.Prelude.{Result, Ok, Err}
+use Rattle.params.specs.declared.rows.RowError.{RowError}
+use Rattle.params.specs.declared.rows.RowError.TheVariants.{Lent, Row}
 use Rattle.params.specs.Allowed.{entry_row, row_allowed, row_at, mode_at, flag_fault, row_fault, check_rows, check_reply}
 use Rattle.params.proofs.FaultLaws.{allowed_entry, check_lent, check_row_lem, check_done}
 use Rattle.dequant.proofs.Lent.{rows_fine}
@@ -25,8 +26,8 @@ use Rattle.promises.proofs.RowTheorem.{Writes, allowed_writes, writes_allowed, f
 -- ---- by the first kind at fault
 module _ (rows : List ℕ) where
   -- which of the three, by the two tests
-  abbrev check : Bool → Bool → RowCheck
-  check long fault = cond long (cond fault (Row (row_fault rows)) Done) Lent
+  abbrev check : Bool → Bool → Result (Unit {0}) RowError
+  check long fault = cond long (cond fault (Err (Row (row_fault rows))) (Ok tt)) (Err Lent)
 
   pub done_fault : check_reply (check_rows rows) ≡ 0 ∷ [] → (length rows ≡ 2176) × (17 ≤ row_fault rows)
   unfolding check_rows

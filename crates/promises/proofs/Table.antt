@@ -7,7 +7,7 @@ use lib.Dec.{lit<}
 use lib.IntN.{ℤ, pos, negsuc}
 use lib.ListN.{length, get_or, replicate, length-replicate, get_or-replicate}
 use lib.Ieee.{Float, nan, fin}
-use Rattle.bitstream.specs.declared.half.Number.TheVariants.{Value}
+use Rattle.std.specs.Prelude.{Some}
 use Rattle.bitstream.specs.Half.{half, barred, half_answer, half_reply}
 use Rattle.bitstream.proofs.Numbers as halves
 use Rattle.params.specs.Header.{reply_of, read_header}
@@ -71,9 +71,9 @@ pub record Table : Type 0 where
   pub p3 : ReadsTo (replicate 6 0) (2 ∷ 15 ∷ 46 ∷ 1 ∷ [])
   pub p4 : ReadsTo (0 ∷ 32 ∷ []) (3 ∷ 4 ∷ 13 ∷ [])
   -- half 7bff is 65504 = 2047 x 2 ^ 5, 7c00 FLOAT: by itself, and as kind 0's first number, at bit 4; half 0001 is 2 ^ -24
-  pub p5 : half_answer 0x7bff ≡ Value (fin false 2047 (pos 5))
+  pub p5 : half_answer 0x7bff ≡ Some (fin false 2047 (pos 5))
   pub p5_float : (half_reply (half_answer 0x7c00) ≡ 4 ∷ []) × ReadsTo (0x02 ∷ 0xc0 ∷ 0x07 ∷ []) (4 ∷ 0 ∷ 4 ∷ [])
-  pub p6 : half_answer 0x0001 ≡ Value (fin false 1 (negsuc 23))
+  pub p6 : half_answer 0x0001 ≡ Some (fin false 1 (negsuc 23))
   -- mult(-1) = 0.5, mult(1) = 2, mult(0) = 1
   pub p7 : P7
   -- denominator 1004: JPEG values, DONE; 1003 and 1005: NONE

@@ -21,11 +21,11 @@ use Rattle.bands.proofs.Sound.{sound_every}
 use Rattle.bands.proofs.Units.{Units, div_units}
 use Rattle.bands.proofs.Ranged.{Banded, round_banded}
 use Rattle.matrix.specs.declared.numbers.Numbers.{Numbers}
-use Rattle.matrix.specs.declared.Expanded.{Expanded}
-use Rattle.matrix.specs.declared.Expanded.TheVariants.{Done, Band}
+use Rattle.std.specs.Prelude.{Ok, Err}
+use Rattle.matrix.specs.declared.ExpandError.TheVariants.{Band}
 use Rattle.matrix.specs.Raw.{refused, weight_of}
 use Rattle.matrix.specs.Numbers.{numbers_of, number_of, count}
-use Rattle.matrix.specs.Expanded.{reply_of, or_else, list_answer, band_answer, lent_right, kind_answer, expand_answer}
+use Rattle.matrix.specs.Expanded.{Expanded, reply_of, or_else, list_answer, band_answer, lent_right, kind_answer, expand_answer}
 use Rattle.matrix.specs.Views.{Shaped}
 use Rattle.matrix.specs.Weight.{weight_at, grid_weight, mode1, mode2, mode3, mode4, mode5, corner, from, layer, rule, weight_in}
 use Rattle.matrix.proofs.Lending.{given}
@@ -168,14 +168,14 @@ banded_passes b r = go b r.at r.value (lt_of_lt_of_le (pow_pos 125) r.least)
     go (fin false m e) g v h = above_passes m e (lib.Ieee.Positive.first_pos (m * up e) (2 ^ 149) (subst (λ (z : ℕ). 0 < z) (sym v.1) (mul-pos h (down_pos e))))
 
 module _ (n : Numbers) (k : ℕ) (t : Tame n) where
-  list_done : (l c : ℕ) → c < 3 → list_answer n k c l ≡ Done
+  list_done : (l c : ℕ) → c < 3 → list_answer n k c l ≡ Ok tt
   unfolding list_answer
   list_done l c h =
-      ap (λ (s : ℕ). cond (ltb s (count n l)) (Band k c s) Done) (sound_every (list_number n l c) (count n l) (λ i g. banded_passes (band_at (list_number n l c) i) (t.bands l c i h g)))
-      ∙ ap (λ (b : Bool). cond b (Band k c (count n l)) Done) (le-ltb (count n l) (count n l) (le_refl (count n l)))
+      ap (λ (s : ℕ). cond (ltb s (count n l)) (Err (Band k c s)) (Ok tt)) (sound_every (list_number n l c) (count n l) (λ i g. banded_passes (band_at (list_number n l c) i) (t.bands l c i h g)))
+      ∙ ap (λ (b : Bool). cond b (Err (Band k c (count n l))) (Ok tt)) (le-ltb (count n l) (count n l) (le_refl (count n l)))
 
   -- no band of a tame list is refused
-  pub tame_bands : (m : ℕ) → m ≤ 3 → band_answer n k m ≡ Done
+  pub tame_bands : (m : ℕ) → m ≤ 3 → band_answer n k m ≡ Ok tt
   unfolding band_answer
   tame_bands zero h = refl
   tame_bands (suc m) h =

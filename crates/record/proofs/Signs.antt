@@ -12,9 +12,7 @@ use lib.ListN.{length, get_or}
 use lib.Dec.{eqb}
 use Rattle.record.specs.Format.{got, Format, Lawful, lit, via, choose}
 use Rattle.record.specs.Text.{bytes}
-use Rattle.record.specs.declared.piece.Step.{Step}
-use Rattle.record.specs.declared.piece.Step.TheVariants.{Ended as ended, Stuck as stuck, On as on}
-use Rattle.record.specs.Number.{next, number_from, number, is_zero, is_minus, nought, minus, plus, signed}
+use Rattle.record.specs.Number.{Step, ended, stuck, on, next, number_from, number, is_zero, is_minus, nought, minus, plus, signed}
 use Rattle.record.proofs.Laws.{got_bad, Side, lit_lawful, via_lawful, after_lawful, choose_lawful, of_value}
 use Rattle.record.proofs.Numbers.{number_lawful, next_on, next_ended}
 

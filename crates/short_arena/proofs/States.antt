@@ -95,3 +95,33 @@ put_next l x h =
     ∙ set_at l 0 (replicate m 0) x (length l) refl
     ∙ sym (append_snoc l x (replicate m 0))
     ∙ ap (λ (n : ℕ). l ++ (x ∷ []) ++ replicate n 0) f
+
+-- the first i kinds but one, and 0 behind them
+pub record Kept (ks : List ℕ) (k i n : ℕ) (kinds : List ℕ) : Type 0 where
+  pub few : n ≤ i
+  pub counted : n ≡ length (without (take i ks) k)
+  pub kept : kinds ≡ padded (without (take i ks) k)
+
+pub kept_none : (ks : List ℕ) (k : ℕ) → Kept ks k 0 0 (replicate 17 0)
+unfolding without
+kept_none ks k = record { few = omega arith; counted = refl; kept = refl }
+
+module _ (ks : List ℕ) (k i n : ℕ) (kinds : List ℕ) (g : Kept ks k i n kinds) (h : i < length ks) where
+  pub kept_same : get_or ks i 0 ≡ k → Kept ks k (i + 1) n kinds
+  kept_same e =
+      let f = without_same ks i k h e in
+      let w = g.few in
+      record { few = omega arith; counted = g.counted ∙ ap length (sym f); kept = g.kept ∙ ap padded (sym f) }
+
+  pub kept_other : length ks ≤ 17 → (get_or ks i 0 ≡ k → ⊥) → Kept ks k (i + 1) (n + 1) (set kinds n (get_or ks i 0))
+  kept_other m e =
+      let x = get_or ks i 0 in
+      let l = without (take i ks) k in
+      let f = without_other ks i k h e in
+      let w = g.few in
+      let c = g.counted in
+      record {
+        few = omega arith;
+        counted = ap (λ (j : ℕ). j + 1) c ∙ sym (ap length f ∙ length-append l (x ∷ []));
+        kept = ap (λ (r : List ℕ). set r n x) g.kept ∙ ap (λ (j : ℕ). set (padded l) j x) c ∙ put_next l x (omega arith) ∙ ap padded (sym f);
+      }

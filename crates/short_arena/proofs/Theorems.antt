@@ -20,11 +20,13 @@ use Rattle.transform.proofs.ZeroLaws.{of_zeros}
 use Rattle.slices.specs.Slices.{laid_at, closed_at}
 use Rattle.slices.proofs.Places.{laid_at_lem, laid_before, laid_at_length, closed_length, closed_before, closed_behind, closed_end}
 use Rattle.short_arena.specs.declared.held.State.{State}
-use Rattle.short_arena.specs.declared.arena.Answer.{Answer}
-use Rattle.short_arena.specs.declared.arena.Answer.TheVariants.{Done, Part, Lent, Held, Full, Gone}
+use Rattle.std.proofs.Common.{Result, Ok, Err}
+use Rattle.short_arena.specs.declared.arena.Part.{Part}
+use Rattle.short_arena.specs.declared.arena.ShortError.{ShortError}
+use Rattle.short_arena.specs.declared.arena.ShortError.TheVariants.{Lent, Held, Full, Gone}
 use Rattle.short_arena.specs.Held.{held_of, state_of, is_held, single, sum_over, places_in, start_in, without}
 use Rattle.transform.specs.Zeros.{all_zero}
-use Rattle.short_arena.specs.Short.{short_reply, lent_right, add_answer, add_state, add_arena, find_answer, drop_answer, drop_state, drop_arena, leaves, part_in, part_with, shown}
+use Rattle.short_arena.specs.Short.{short_reply, drop_reply, part_at, lent_right, add_answer, add_state, add_arena, find_answer, drop_answer, drop_state, drop_arena, leaves, part_in, part_with, shown}
 use Rattle.short_arena.specs.Calls.{AddRight, Call, adding, finding, dropping, Noted, note, Left, call, calls, begun, with_done, seen, is_noted, sum_below, noted_places}
 use Rattle.short_arena.proofs.Lending.{is_right, right_is, no_kind}
 use Rattle.short_arena.proofs.Sums.{sum_is, same_below, few}
@@ -118,11 +120,11 @@ module _ (d : Left) (g : Good d) (k : ℕ) (ws : List Float) where
   unfolding add_answer add_state add_arena
   add_good = go (eqb (length ws) (places_of k) && lent_right (length d.arena) d.state k) (is_held ks k) (ltb (length d.arena - places_in ks) (places_of k)) refl refl refl
     where
-      P : Answer → Type 0
+      P : Result Part ShortError → Type 0
       P r = Good (record { arena = leaves r more d.arena; state = leaves r (state_of (ks ++ k ∷ [])) d.state; noted = leaves r (note d.noted k (some ws)) d.noted })
 
       go : (x y z : Bool) → (eqb (length ws) (places_of k) && lent_right (length d.arena) d.state k) ≡ x → is_held ks k ≡ y → ltb (length d.arena - places_in ks) (places_of k) ≡ z
-          → P (cond x (cond y Held (cond z Full (Part (places_in ks) (places_of k)))) Lent)
+          → P (cond x (cond y (Err Held) (cond z (Err Full) (Ok (part_at (places_in ks) (places_of k))))) (Err Lent))
       go true true z p q r = g
       go true false true p q r = g
       go true false false p q r =
@@ -169,10 +171,10 @@ module _ (d : Left) (g : Good d) (k : ℕ) where
   unfolding drop_answer drop_state drop_arena
   drop_good = go (lent_right (length d.arena) d.state k) (is_held js k) refl
     where
-      P : Answer → Type 0
+      P : Result (Unit {0}) ShortError → Type 0
       P r = Good (record { arena = leaves r shut d.arena; state = leaves r (state_of (without js k)) d.state; noted = leaves r (note d.noted k none) d.noted })
 
-      go : (x y : Bool) → is_held js k ≡ y → P (cond x (cond y Done Gone) Lent)
+      go : (x y : Bool) → is_held js k ≡ y → P (cond x (cond y (Ok tt) (Err Gone)) (Err Lent))
       go true true q = dropped_good q
       go true false q = g
       go false y q = g
@@ -182,11 +184,11 @@ add_length : (a : List Float) (s : State) (k : ℕ) (ws : List Float) → length
 unfolding add_arena add_answer
 add_length a s k ws = go (eqb (length ws) (places_of k) && lent_right (length a) s k) (is_held (held_of s) k) (ltb (length a - places_in (held_of s)) (places_of k)) refl refl
   where
-    long : Answer → Type 0
+    long : Result Part ShortError → Type 0
     long r = length (leaves r (laid_at (places_in (held_of s)) ws a) a) ≡ length a
 
     go : (x y z : Bool) → (eqb (length ws) (places_of k) && lent_right (length a) s k) ≡ x → ltb (length a - places_in (held_of s)) (places_of k) ≡ z
-        → long (cond x (cond y Held (cond z Full (Part (places_in (held_of s)) (places_of k)))) Lent)
+        → long (cond x (cond y (Err Held) (cond z (Err Full) (Ok (part_at (places_in (held_of s)) (places_of k))))) (Err Lent))
     go true true z p r = refl
     go true false true p r = refl
     go true false false p r =
@@ -199,10 +201,10 @@ drop_length : (a : List Float) (s : State) (k : ℕ) → length (drop_arena a s 
 unfolding drop_arena drop_answer
 drop_length a s k = go (lent_right (length a) s k) (is_held (held_of s) k) refl refl
   where
-    long : Answer → Type 0
+    long : Result (Unit {0}) ShortError → Type 0
     long r = length (leaves r (closed_at (of_bits binary32 0) (start_in (held_of s) k) (places_of k) (places_in (held_of s)) a) a) ≡ length a
 
-    go : (x y : Bool) → lent_right (length a) s k ≡ x → is_held (held_of s) k ≡ y → long (cond x (cond y Done Gone) Lent)
+    go : (x y : Bool) → lent_right (length a) s k ≡ x → is_held (held_of s) k ≡ y → long (cond x (cond y (Ok tt) (Err Gone)) (Err Lent))
     go true true p q = closed_length a (of_bits binary32 0) (start_in (held_of s) k) (places_of k) (places_in (held_of s)) (start_fits (held_of s) k q) (is_right (length a) s k p).room
     go true false p q = refl
     go false y p q = refl
@@ -245,16 +247,16 @@ seen_noted : (d : Left) → Good d → (k : ℕ) → seen d k ≡ d.noted k
 unfolding find_answer shown
 seen_noted d g k = ⊎_elim inside outside (side k 17) ∙ sym (g.told k)
   where
-    by : Answer → Option (List Float)
+    by : Result Part ShortError → Option (List Float)
     by r = with_done r (part_with r (part_in d.arena (held_of d.state) k))
 
-    answer : Bool → Answer
-    answer b = cond b (cond (is_held (held_of d.state) k) (Part (start_in (held_of d.state) k) (places_of k)) Gone) Lent
+    answer : Bool → Result Part ShortError
+    answer b = cond b (cond (is_held (held_of d.state) k) (Ok (part_at (start_in (held_of d.state) k) (places_of k))) (Err Gone)) (Err Lent)
 
     inside : k < 17 → seen d k ≡ held_part d.arena (held_of d.state) k
     inside h = ap (λ (b : Bool). by (answer b)) (lent_on d g k h) ∙ go (is_held (held_of d.state) k)
       where
-        go : (b : Bool) → by (cond b (Part (start_in (held_of d.state) k) (places_of k)) Gone) ≡ cond b (some (part_in d.arena (held_of d.state) k)) none
+        go : (b : Bool) → by (cond b (Ok (part_at (start_in (held_of d.state) k) (places_of k))) (Err Gone)) ≡ cond b (some (part_in d.arena (held_of d.state) k)) none
         go true = refl
         go false = refl
 
@@ -294,7 +296,7 @@ module _ (n : ℕ) (s : State) (k : ℕ) where
   module _ (m : ℕ) where
     -- whether each test passes, and what they say together
     tests : (x y z : Bool) → (eqb m (places_of k) && lent_right n s k) ≡ x → is_held (held_of s) k ≡ y → ltb (n - places_in (held_of s)) (places_of k) ≡ z
-        → add_answer n s k m ≡ cond x (cond y Held (cond z Full (Part (places_in (held_of s)) (places_of k)))) Lent
+        → add_answer n s k m ≡ cond x (cond y (Err Held) (cond z (Err Full) (Ok (part_at (places_in (held_of s)) (places_of k))))) (Err Lent)
     unfolding add_answer
     tests x y z p q r = rw (p, q, r)
 
@@ -332,17 +334,17 @@ module _ (n : ℕ) (s : State) (k : ℕ) where
   unfolding find_answer
   gone_exactly = (go (lent_right n s k) (is_held (held_of s) k) refl refl, λ (e, h). rw (e, h))
     where
-      go : (x y : Bool) → lent_right n s k ≡ x → is_held (held_of s) k ≡ y → short_reply (cond x (cond y (Part (start_in (held_of s) k) (places_of k)) Gone) Lent) ≡ 18 ∷ []
+      go : (x y : Bool) → lent_right n s k ≡ x → is_held (held_of s) k ≡ y → short_reply (cond x (cond y (Ok (part_at (start_in (held_of s) k) (places_of k))) (Err Gone)) (Err Lent)) ≡ 18 ∷ []
           → (lent_right n s k ≡ true) × (is_held (held_of s) k ≡ false)
       go true true p q e = absurd (differs 0 18 (start_in (held_of s) k ∷ places_of k ∷ []) [] refl e)
       go true false p q e = (p, q)
       go false y p q e = absurd (differs 1 18 [] [] refl e)
 
-  pub drop_gone_exactly : (short_reply (drop_answer n s k) ≡ 18 ∷ []) ↔ ((lent_right n s k ≡ true) × (is_held (held_of s) k ≡ false))
+  pub drop_gone_exactly : (drop_reply (drop_answer n s k) ≡ 18 ∷ []) ↔ ((lent_right n s k ≡ true) × (is_held (held_of s) k ≡ false))
   unfolding drop_answer
   drop_gone_exactly = (go (lent_right n s k) (is_held (held_of s) k) refl refl, λ (e, h). rw (e, h))
     where
-      go : (x y : Bool) → lent_right n s k ≡ x → is_held (held_of s) k ≡ y → short_reply (cond x (cond y Done Gone) Lent) ≡ 18 ∷ [] → (lent_right n s k ≡ true) × (is_held (held_of s) k ≡ false)
+      go : (x y : Bool) → lent_right n s k ≡ x → is_held (held_of s) k ≡ y → drop_reply (cond x (cond y (Ok tt) (Err Gone)) (Err Lent)) ≡ 18 ∷ [] → (lent_right n s k ≡ true) × (is_held (held_of s) k ≡ false)
       go true true p q e = absurd (differs 0 18 [] [] refl e)
       go true false p q e = (p, q)
       go false y p q e = absurd (differs 1 18 [] [] refl e)
@@ -379,39 +381,35 @@ module _ (a : List Float) (cs : List Call) (h : length a ≤ 394752) (k : ℕ) (
   )
 
 -- ---- the places that a reply says are those of the weights
-part_said : (r : Answer) (f p : ℕ) → short_reply r ≡ 0 ∷ f ∷ p ∷ [] → Part f p ≡ r
-part_said Done f p e = absurd (omega (arith, ap length e))
-part_said (Part x y) f p e = sym (ap (λ (l : List ℕ). Part (get_or l 1 0) (get_or l 2 0)) e)
-part_said Lent f p e = absurd (differs 1 0 [] (f ∷ p ∷ []) refl e)
-part_said Held f p e = absurd (differs 17 0 [] (f ∷ p ∷ []) refl e)
-part_said Full f p e = absurd (differs 13 0 [] (f ∷ p ∷ []) refl e)
-part_said Gone f p e = absurd (differs 18 0 [] (f ∷ p ∷ []) refl e)
+part_said : (r : Result Part ShortError) (f p : ℕ) → short_reply r ≡ 0 ∷ f ∷ p ∷ [] → Ok (part_at f p) ≡ r
+part_said (Ok x) f p e = sym (ap (λ (l : List ℕ). Ok (part_at (get_or l 1 0) (get_or l 2 0))) e)
+part_said (Err x) f p e = absurd (omega (arith, ap length e))
 
 -- looking up: the part there is the one that is shown
 pub found_there : (a : List Float) (s : State) (k f p : ℕ) → short_reply (find_answer (length a) s k) ≡ 0 ∷ f ∷ p ∷ [] → take p (drop f a) ≡ shown a s k
 found_there a s k f p e =
     let i = part_said (find_answer (length a) s k) f p e in
-    let g = find_says (length a) s k f p i in
-    ap (λ (n : ℕ). take p (drop n a)) g.first ∙ ap (λ (n : ℕ). take n (drop (start_in (held_of s) k) a)) g.places ∙ shows_part a s k f p i
+    let g = find_says (length a) s k (part_at f p) i in
+    ap (λ (n : ℕ). take p (drop n a)) g.first ∙ ap (λ (n : ℕ). take n (drop (start_in (held_of s) k) a)) g.places ∙ shows_part a s k (part_at f p) (sym i)
 
 -- adding: the part there is then the weights
 pub added_there : (a : List Float) (s : State) (k : ℕ) (ws : List Float) (f p : ℕ) → short_reply (add_answer (length a) s k (length ws)) ≡ 0 ∷ f ∷ p ∷ [] → take p (drop f (add_arena a s k ws)) ≡ ws
 added_there a s k ws f p e =
     let i = part_said (add_answer (length a) s k (length ws)) f p e in
-    let g = add_says (length a) s k (length ws) f p i in
-    ap (λ (l : List Float). take p (drop f l)) (sym (add_lays a s k ws f p i))
+    let g = add_says (length a) s k (length ws) (part_at f p) i in
+    ap (λ (l : List Float). take p (drop f l)) (sym (add_lays a s k ws (part_at f p) (sym i)))
     ∙ ap (λ (n : ℕ). take p (drop n (laid_at (places_in (held_of s)) ws a))) g.first
     ∙ ap (λ (n : ℕ). take n (drop (places_in (held_of s)) (laid_at (places_in (held_of s)) ws a))) (g.places ∙ sym g.weights)
     ∙ laid_at_lem a ws (places_in (held_of s)) g.right.room
 
 -- ---- what a drop leaves behind the places in use: 0 where places came free, and the others as they were
-pub freed_zero : (a : List Float) (s : State) (k : ℕ) → short_reply (drop_answer (length a) s k) ≡ 0 ∷ []
+pub freed_zero : (a : List Float) (s : State) (k : ℕ) → drop_reply (drop_answer (length a) s k) ≡ 0 ∷ []
     → drop (places_in (held_of (drop_state (length a) s k))) (drop_arena a s k) ≡ replicate (places_of k) (of_bits binary32 0) ++ drop (places_in (held_of s)) a
 unfolding drop_answer drop_state drop_arena
 freed_zero a s k = go (lent_right (length a) s k) (is_held (held_of s) k) refl refl
   where
-    go : (x y : Bool) → lent_right (length a) s k ≡ x → is_held (held_of s) k ≡ y → short_reply (cond x (cond y Done Gone) Lent) ≡ 0 ∷ []
-        → drop (places_in (held_of (leaves (cond x (cond y Done Gone) Lent) (state_of (without (held_of s) k)) s))) (leaves (cond x (cond y Done Gone) Lent) (closed_at (of_bits binary32 0) (start_in (held_of s) k) (places_of k) (places_in (held_of s)) a) a)
+    go : (x y : Bool) → lent_right (length a) s k ≡ x → is_held (held_of s) k ≡ y → drop_reply (cond x (cond y (Ok (tt {0})) (Err Gone)) (Err Lent)) ≡ 0 ∷ []
+        → drop (places_in (held_of (leaves (cond x (cond y (Ok (tt {0})) (Err Gone)) (Err Lent)) (state_of (without (held_of s) k)) s))) (leaves (cond x (cond y (Ok (tt {0})) (Err Gone)) (Err Lent)) (closed_at (of_bits binary32 0) (start_in (held_of s) k) (places_of k) (places_in (held_of s)) a) a)
         ≡ replicate (places_of k) (of_bits binary32 0) ++ drop (places_in (held_of s)) a
     go true true p q e =
         let ks = held_of s in

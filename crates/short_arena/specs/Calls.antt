@@ -1,11 +1,11 @@
 -- For theorems: a list of calls, each handed the arena and the state that the last one left, and beside them the weights that each kind was
 -- added with. Definitions only.
-use Rattle.std.specs.Prelude.{◌≡◌, Bool, true, false, cond, List, [], ◌∷◌, ℕ, zero, suc, ◌+◌, eqb, length, Float}
+use Rattle.std.specs.Prelude.{Result, ◌≡◌, Bool, true, false, cond, List, [], ◌∷◌, ℕ, zero, suc, ◌+◌, eqb, length, Float}
 use Rattle.std.proofs.Math.Option.{Option, none, some}
 use Rattle.transform.specs.Kinds.{places_of}
 use Rattle.short_arena.specs.declared.held.State.{State}
-use Rattle.short_arena.specs.declared.arena.Answer.{Answer}
-use Rattle.short_arena.specs.declared.arena.Answer.TheVariants.{Done, Part, Lent, Held, Full, Gone}
+use Rattle.short_arena.specs.declared.arena.Part.{Part}
+use Rattle.short_arena.specs.declared.arena.ShortError.{ShortError}
 use Rattle.short_arena.specs.Held.{state_of}
 use Rattle.short_arena.specs.Short.{lent_right, add_answer, add_state, add_arena, find_answer, shown, drop_answer, drop_state, drop_arena, leaves}
 
@@ -58,13 +58,8 @@ abbrev pub begun : List Float → Left
 begun a = record { arena = a; state = state_of []; noted = λ k. none }
 
 -- the weights that looking up shows, with DONE
-abbrev pub with_done : Answer → List Float → Option (List Float)
-with_done Done p = none
-with_done (Part first n) p = some p
-with_done Lent p = none
-with_done Held p = none
-with_done Full p = none
-with_done Gone p = none
+abbrev pub with_done : Result Part ShortError → List Float → Option (List Float)
+with_done r p = leaves r (some p) none
 
 -- what looking a kind up shows
 abbrev pub seen : Left → ℕ → Option (List Float)

@@ -1,23 +1,36 @@
 -- The short arena (document 02's ticket 6): what adding, looking up and dropping answer and leave. LENT; HELD, then FULL; or GONE. Definitions only.
-use Rattle.std.specs.Prelude.{Bool, cond, ◌&&◌, List, [], ◌∷◌, ◌++◌, ℕ, ◌-◌, eqb, ltb, leb, length, take, drop, Float}
+use Rattle.std.specs.Prelude.{Result, Ok, Err, Bool, cond, ◌&&◌, List, [], ◌∷◌, ◌++◌, ℕ, ◌-◌, eqb, ltb, leb, length, take, drop, Float}
 use Rattle.std.specs.Float.Ieee.{of_bits}
 use Rattle.std.specs.Float.{binary32}
 use Rattle.transform.specs.Kinds.{places_of}
 use Rattle.slices.specs.Slices.{laid_at, closed_at}
 use Rattle.short_arena.specs.declared.held.State.{State}
-use Rattle.short_arena.specs.declared.arena.Answer.{Answer}
-use Rattle.short_arena.specs.declared.arena.Answer.TheVariants.{Done, Part, Lent, Held, Full, Gone}
+use Rattle.short_arena.specs.declared.arena.Part.{Part}
+use Rattle.short_arena.specs.declared.arena.ShortError.{ShortError}
+use Rattle.short_arena.specs.declared.arena.ShortError.TheVariants.{Lent, Held, Full, Gone}
 use Rattle.short_arena.specs.Held.{held_of, state_of, is_held, single, places_in, start_in, without}
 use Rattle.transform.specs.Zeros.{all_zero}
 
+-- the number of a refusal
+abbrev pub refusal : ShortError → ℕ
+refusal Lent = 1
+refusal Full = 13
+refusal Held = 17
+refusal Gone = 18
+
 -- the number of a reply, and its values
-abbrev pub short_reply : Answer → List ℕ
-short_reply Done = 0 ∷ []
-short_reply (Part first n) = 0 ∷ first ∷ n ∷ []
-short_reply Lent = 1 ∷ []
-short_reply Full = 13 ∷ []
-short_reply Held = 17 ∷ []
-short_reply Gone = 18 ∷ []
+abbrev pub short_reply : Result Part ShortError → List ℕ
+short_reply (Ok p) = 0 ∷ p.first ∷ p.length ∷ []
+short_reply (Err e) = refusal e ∷ []
+
+-- the number of a reply to dropping
+abbrev pub drop_reply : Result (Unit {0}) ShortError → List ℕ
+drop_reply (Ok done) = 0 ∷ []
+drop_reply (Err e) = refusal e ∷ []
+
+-- a part, by its first place and its length
+abbrev pub part_at : ℕ → ℕ → Part
+part_at first n = record { first = first; length = n }
 
 -- LENT is given unless: the kind is at most 16, the arena's n places at most 394,752, the count at most 17, each held one is a kind and none
 -- is there twice, the arena has the places that they need, and 0 stands behind them
@@ -26,27 +39,23 @@ lent_right n s k =
     ltb k 17 && (leb n 394752 && (leb s.count 17 && (single (held_of s) && (leb (places_in (held_of s)) n && all_zero (drop s.count s.kinds)))))
 
 -- adding, in an arena of n places, a kind with m weights: LENT, HELD, then FULL if the free places are fewer than it needs
-unfoldable pub add_answer : ℕ → State → ℕ → ℕ → Answer
+unfoldable pub add_answer : ℕ → State → ℕ → ℕ → Result Part ShortError
 add_answer n s k m =
     cond (eqb m (places_of k) && lent_right n s k)
-    (cond (is_held (held_of s) k) Held (cond (ltb (n - places_in (held_of s)) (places_of k)) Full (Part (places_in (held_of s)) (places_of k)))) Lent
+    (cond (is_held (held_of s) k) (Err Held) (cond (ltb (n - places_in (held_of s)) (places_of k)) (Err Full) (Ok (part_at (places_in (held_of s)) (places_of k))))) (Err Lent)
 
 -- looking a kind up: LENT, then GONE
-unfoldable pub find_answer : ℕ → State → ℕ → Answer
-find_answer n s k = cond (lent_right n s k) (cond (is_held (held_of s) k) (Part (start_in (held_of s) k) (places_of k)) Gone) Lent
+unfoldable pub find_answer : ℕ → State → ℕ → Result Part ShortError
+find_answer n s k = cond (lent_right n s k) (cond (is_held (held_of s) k) (Ok (part_at (start_in (held_of s) k) (places_of k))) (Err Gone)) (Err Lent)
 
 -- dropping a kind: LENT, then GONE
-unfoldable pub drop_answer : ℕ → State → ℕ → Answer
-drop_answer n s k = cond (lent_right n s k) (cond (is_held (held_of s) k) Done Gone) Lent
+unfoldable pub drop_answer : ℕ → State → ℕ → Result (Unit {0}) ShortError
+drop_answer n s k = cond (lent_right n s k) (cond (is_held (held_of s) k) (Ok tt) (Err Gone)) (Err Lent)
 
 -- what a call leaves: what it makes, or with a refusal what was there
-abbrev pub leaves : {A : Type 0} → Answer → A → A → A
-leaves Done new old = new
-leaves (Part first n) new old = new
-leaves Lent new old = old
-leaves Held new old = old
-leaves Full new old = old
-leaves Gone new old = old
+abbrev pub leaves : {T E A : Type 0} → Result T E → A → A → A
+leaves (Ok x) new old = new
+leaves (Err e) new old = old
 
 -- the state after adding: the kind behind the others
 unfoldable pub add_state : ℕ → State → ℕ → ℕ → State
@@ -70,13 +79,8 @@ abbrev pub part_in : List Float → List ℕ → ℕ → List Float
 part_in a ks k = take (places_of k) (drop (start_in ks k) a)
 
 -- the part that comes with an answer: a refusal gives an empty one
-abbrev pub part_with : Answer → List Float → List Float
-part_with Done p = []
-part_with (Part first n) p = p
-part_with Lent p = []
-part_with Held p = []
-part_with Full p = []
-part_with Gone p = []
+abbrev pub part_with : Result Part ShortError → List Float → List Float
+part_with r p = leaves r p []
 
 -- what looking up shows
 unfoldable pub shown : List Float → State → ℕ → List Float

@@ -5,5 +5,5 @@
 mod arena;
 mod held;
 
-pub use arena::{Answer, Step, add, drop_kind, lookup, lookup_reply};
+pub use arena::{Part, ShortError, add, drop_kind, lookup, lookup_reply};
 pub use held::State;

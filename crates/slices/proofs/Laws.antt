@@ -1,18 +1,16 @@
--- The two loops, turn by turn: each is a copy (`paste`) of what it writes, from a place on. Assumes nothing.
-use mathlib.Core.Path.{◌≡◌, sym, ap, ◌∙◌}
-use mathlib.Core.Bool.{Bool, cond, ◌&&◌, and-false}
-use mathlib.Core.List.{List, ◌++◌, append_assoc}
-use Prim.Native.Nat.{ℕ, suc, ◌+◌, ◌-◌, ◌≤◌, ◌<◌}
-use native.Mathlib.Nat.{le_refl}
-use native.Mathlib.Omega.{arith}
-use borrow.Author.Tests.{le-leb, lt-leb}
+-- What laying in and closing up leave: nothing new where it doesn't fit, and else what the library's copies and fill write. Assumes nothing.
+use Rattle.std.proofs.Common.{◌≡◌, ℕ, ◌+◌, ◌-◌, ◌≤◌, ◌<◌, Bool, cond, ◌&&◌, List, ◌++◌, length, take, drop, replicate, sym, refl, ap, ◌∙◌, arith, le-leb, length-drop, length-append, length-take-le}
+use mathlib.Core.Bool.{and-false}
 use lib.Dec.{leb}
-use lib.ListN.{length, get_or, take, drop, set, replicate, get_or-replicate, get_or-append}
-use lib.Seq.{paste, paste-suc, drop-paste, take_all, get_or-take, get_or-drop, get_or-append-add}
+use borrow.Author.Tests.{lt-leb}
+use borrow.Rule.Slice.PartMut.{put_mid}
 use lib.Ieee.{Float, of_bits, binary32}
-use Rattle.transform.specs.Kinds.{spliced}
-use Rattle.slices.specs.Slices.{laid_at, moved_down, closed_at, put_leaves, close_leaves}
-use Rattle.slices.proofs.Places.{down_length, moved_length}
+use lib.Seq.{paste}
+use Rattle.std.proofs.lemmas.List.{length-replicate, take-take}
+use Rattle.std.proofs.lemmas.Slice.{put_mid-paste}
+use Rattle.std.proofs.lemmas.List.Edits.{length-paste, paste_all, paste-paste}
+use Rattle.slices.specs.Slices.{laid_at, closed_at, put_leaves, close_leaves}
+use Rattle.slices.proofs.Places.{down_length}
 
 -- ---- weights laid in
 module _ (l : List Float) (at : ℕ) (ws : List Float) where
@@ -24,19 +22,14 @@ module _ (l : List Float) (at : ℕ) (ws : List Float) where
   unfolding put_leaves
   put_fits h = ap (λ (b : Bool). cond b (laid_at at ws l) l) (le-leb (at + length ws) (length l) h)
 
-  -- all copied
-  pub put_all : at + length ws ≤ length l → paste l at ws (length ws) ≡ put_leaves l at ws
-  put_all h =
-      append_assoc (take at l) (take (length ws) ws) (drop (at + length ws) l)
-      ∙ ap (λ (x : List Float). take at l ++ (x ++ drop (at + length ws) l)) (take_all (length ws) ws (le_refl (length ws)))
-      ∙ sym (put_fits h)
+  -- the part from `at` on written over
+  pub put_all : at + length ws ≤ length l → (x : List Float) → x ≡ ws → put_mid at (at + length ws - at) l x ≡ put_leaves l at ws
+  put_all h x e =
+      let n : length ws ≡ at + length ws - at = omega arith in
+      put_mid-paste at (at + length ws - at) l x ws (length ws) e n refl ∙ paste_all l at ws (length ws) refl ∙ sym (put_fits h)
 
 -- ---- a stretch closed up
 module _ (l : List Float) (at n end : ℕ) where
-  -- what is written from `at` on
-  abbrev pub moved : List Float
-  moved = moved_down (of_bits binary32 0) at n end l
-
   pub close_beyond : length l < end → l ≡ close_leaves l at n end
   unfolding close_leaves
   close_beyond h =
@@ -53,56 +46,26 @@ module _ (l : List Float) (at n end : ℕ) where
         ap (λ (b : Bool). cond (b && leb end (length l)) (closed_at (of_bits binary32 0) at n end l) l) (le-leb (at + n) end h)
         ∙ ap (λ (b : Bool). cond b (closed_at (of_bits binary32 0) at n end l) l) (le-leb end (length l) g)
 
-    -- a turn at place i, with what it reads and what it writes
-    module _ (x : List Float) (i : ℕ) (z : Float) (a : at ≤ i) (b : i < end) (e : x ≡ paste l at moved (i - at)) where
-      stored : (v : Float) → v ≡ get_or moved (i - at) z → set x i v ≡ paste l at moved (i + 1 - at)
-      stored v f =
-          let o : i ≡ at + (i - at) = omega arith in
-          let s : suc (i - at) ≡ i + 1 - at = omega arith in
-          let m = moved_length l (of_bits binary32 0) at n end h g in
-          ap (λ (y : List Float). set y i v) e
-          ∙ ap (λ (j : ℕ). set (paste l at moved (i - at)) j v) o
-          ∙ ap (set (paste l at moved (i - at)) (at + (i - at))) f
-          ∙ paste-suc l at moved (i - at) z (omega arith) (omega arith)
-          ∙ ap (paste l at moved) s
-
-      -- what stands further on is as it was
-      further : get_or x (i + n) z ≡ get_or l (i + n) z
-      further =
-          let o : at + (i - at) ≡ i = omega arith in
-          let m = moved_length l (of_bits binary32 0) at n end h g in
-          ap (λ (y : List Float). get_or y (i + n) z) e
-          ∙ sym (get_or-drop i (paste l at moved (i - at)) n z)
-          ∙ ap (λ (j : ℕ). get_or (drop j (paste l at moved (i - at))) n z) (sym o)
-          ∙ ap (λ (y : List Float). get_or y n z) (drop-paste l at moved (i - at) (omega arith) (omega arith))
-          ∙ ap (λ (j : ℕ). get_or (drop j l) n z) o
-          ∙ get_or-drop i l n z
-
-      pub moves_down : i < end - n → set x i (get_or x (i + n) z) ≡ paste l at moved (i + 1 - at)
-      moves_down c =
-          let o : at + n + (i - at) ≡ i + n = omega arith in
-          let d = down_length l (of_bits binary32 0) at n end h g in
-          stored (get_or x (i + n) z)
-          (further
-          ∙ sym (get_or-append (take (end - (at + n)) (drop (at + n) l)) (replicate n (of_bits binary32 0)) z (i - at) (omega arith)
-          ∙ get_or-take (end - (at + n)) (drop (at + n) l) (i - at) z (omega arith)
-          ∙ get_or-drop (at + n) l (i - at) z
-          ∙ ap (λ (j : ℕ). get_or l j z) o))
-
-      pub comes_free : end - n ≤ i → set x i (of_bits binary32 0) ≡ paste l at moved (i + 1 - at)
-      comes_free c =
-          let down = take (end - (at + n)) (drop (at + n) l) in
-          let d = down_length l (of_bits binary32 0) at n end h g in
-          let o : i - at ≡ length down + (i - (end - n)) = omega arith in
-          stored (of_bits binary32 0)
-          (sym (ap (λ (j : ℕ). get_or moved j z) o
-          ∙ get_or-append-add down (replicate n (of_bits binary32 0)) (i - (end - n)) z
-          ∙ get_or-replicate n (i - (end - n)) (of_bits binary32 0) z (omega arith)))
-
-    pub close_all : paste l at moved (end - at) ≡ close_leaves l at n end
-    close_all =
-        let o : at + (end - at) ≡ end = omega arith in
-        append_assoc (take at l) (take (end - at) moved) (drop (at + (end - at)) l)
-        ∙ ap (λ (x : List Float). take at l ++ (x ++ drop (at + (end - at)) l)) (take_all (end - at) moved (let m = moved_length l (of_bits binary32 0) at n end h g in omega arith))
-        ∙ ap (λ (j : ℕ). spliced at j moved l) o
+    -- those behind moved down, and then the places that come free filled
+    pub close_all : (x y : List Float) → x ≡ paste l at (drop (at + n) l) (end - (at + n)) → y ≡ replicate (length (take (end - (end - n)) (drop (end - n) x))) (of_bits binary32 0)
+        → put_mid (end - n) (end - (end - n)) x y ≡ close_leaves l at n end
+    close_all x y e f =
+        let z = of_bits binary32 0 in
+        let m = end - (at + n) in
+        let down = take m (drop (at + n) l) in
+        let d : length down ≡ m = down_length l z at n end h g in
+        let a = length-append down (replicate n z) in
+        let r = length-replicate n z in
+        let o : end - n ≡ at + m = omega arith in
+        let k : n ≡ end - (end - n) = omega arith in
+        let q : at + (m + n) ≡ end = omega arith in
+        let p : x ≡ paste l at down m = e ∙ ap (λ (t : List Float). take at l ++ t ++ drop (at + m) l) (sym (take-take m m (drop (at + n) l) (omega arith))) in
+        let w = ap length p ∙ length-paste l at down m (omega arith) (omega arith) in
+        let i : length (take (end - (end - n)) (drop (end - n) x)) ≡ n = length-take-le (end - (end - n)) (drop (end - n) x) (omega (arith, length-drop (end - n) x)) ∙ sym k in
+        put_mid-paste (end - n) (end - (end - n)) x y (replicate n z) n (f ∙ ap (λ (j : ℕ). replicate j z) i) k (sym r)
+        ∙ ap (λ (j : ℕ). paste x j (replicate n z) n) o
+        ∙ ap (λ (t : List Float). paste t (at + m) (replicate n z) n) p
+        ∙ paste-paste l at down (replicate n z) m n (sym d) (sym r) (omega arith)
+        ∙ paste_all l at (down ++ replicate n z) (m + n) (omega arith)
+        ∙ ap (λ (j : ℕ). take at l ++ ((down ++ replicate n z) ++ drop j l)) q
         ∙ sym close_fits

@@ -5,45 +5,27 @@ ghost use Rattle.std.specs.Prelude.{◌≡◌};
 ghost use Rattle.slices.specs.Slices.{put_leaves, close_leaves};
 
 // Weights into an arena, from a place on. Where they don't fit nothing changes.
+#[tactic(auto, using(crate::proofs::Laws::put_stays, crate::proofs::Laws::put_all))]
 pub fn put(arena: &mut [f32], at: usize, weights: &[f32])
     ensures { arena.new ≡ put_leaves arena.old at weights.now }
 {
-    if at > arena.len() {
+    if at > arena.len() || weights.len() > arena.len() - at {
         return;
     }
-    if weights.len() > arena.len() - at {
-        return;
-    }
-    let mut i = 0;
-    while i < weights.len() {
-        arena[at + i] = weights[i];
-        i += 1;
-    }
+    let end = at + weights.len();
+    arena[at..end].copy_from_slice(weights);
 }
 
 // Of the first `end` places n go, from a place on: those behind move down, and the places that come free become 0.
 // Where there are no such places nothing changes.
+#[tactic(auto, using(crate::proofs::Laws::close_beyond, crate::proofs::Laws::close_none, crate::proofs::Laws::close_all))]
 pub fn close(arena: &mut [f32], at: usize, n: usize, end: usize)
     ensures { arena.new ≡ close_leaves arena.old at n end }
 {
-    if end > arena.len() {
-        return;
-    }
-    if at > end {
-        return;
-    }
-    if n > end - at {
+    if end > arena.len() || at > end || n > end - at {
         return;
     }
     let free = end - n;
-    let mut i = at;
-    while i < end {
-        let place = i;
-        i += 1;
-        if place < free {
-            arena[place] = arena[place + n];
-        } else {
-            arena[place] = 0.0;
-        }
-    }
+    arena.copy_within(at + n..end, at);
+    arena[free..end].fill(0.0);
 }

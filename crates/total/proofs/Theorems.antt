@@ -1,6 +1,6 @@
 -- Totals: those of neighbouring stretches add up, in any grouping and order; a replacement gives what a fresh count gives; no product wraps
 -- round; two arenas may share a total. Assumes nothing.
-use Rattle.std.proofs.Common.{◌≡◌, ℕ, zero, suc, ◌+◌, ◌-◌, ◌*◌, ◌/◌, ◌%◌, ◌^◌, ◌<◌, ◌≤◌, Bool, true, false, cond, ◌&&◌, T, eqb, leb, List, [], ◌∷◌, ◌++◌, length, get_or, take, drop, replicate, pos, sym, refl, ap, ◌∙◌, true≢false, le_of_eq, mod-lt, arith, lit<, length-drop, length-take-le, take_all, drop-drop, take-add, eq-eqb, eqb-true, leb-true}
+use Rattle.std.proofs.Common.{Ok, Err, ◌≡◌, ℕ, zero, suc, ◌+◌, ◌-◌, ◌*◌, ◌/◌, ◌%◌, ◌^◌, ◌<◌, ◌≤◌, Bool, true, false, cond, ◌&&◌, T, eqb, leb, List, [], ◌∷◌, ◌++◌, length, get_or, take, drop, replicate, pos, sym, refl, ap, ◌∙◌, le_of_eq, mod-lt, arith, lit<, length-drop, length-take-le, take_all, drop-drop, take-add, eq-eqb, eqb-true, leb-true}
 use mathlib.Core.List.{Permᴰ}
 use native.Mathlib.Nat.{add-mod, mod-add-mod, add-mod-mod, add-mul-mod_self_left, div-add-mod}
 use lib.ListN.{length-replicate}
@@ -9,9 +9,7 @@ use lib.Ieee.Bits.{to_bits-lt}
 use Rattle.transform.specs.Kinds.{places_of, start_of, part, laid}
 use Rattle.transform.proofs.Chain.{left, right}
 use Rattle.transform.proofs.PartLaws.{part_length, laid_own, before_length, laid_length}
-use Rattle.total.specs.declared.Total.{Total}
-use Rattle.total.specs.declared.Total.TheVariants.{Done, Lent}
-use Rattle.total.specs.Total.{sum_from, total_from, total_of, total_answer, replaced, replace_answer, replace_arena}
+use Rattle.total.specs.Total.{lent, sum_from, total_from, total_of, total_answer, replaced, replace_answer, replace_arena}
 use Rattle.total.specs.Sums.{Grouped, one, both, added, numbers, sum, stretches, Share}
 use Rattle.total.proofs.Laws.{product_le, sum_append}
 use Rattle.total.proofs.Answers.{counted, right_weights, replace_done, arena_laid}
@@ -39,29 +37,21 @@ record Counted (a : List Float) (first count t : ℕ) : Type 0 where
   within : first + count ≤ 394752
   total : total_of a first count ≡ t
 
-done_counts : (a : List Float) (first count t : ℕ) → total_answer a first count ≡ Done t → Counted a first count t
+done_counts : (a : List Float) (first count t : ℕ) → total_answer a first count ≡ Ok t → Counted a first count t
 unfolding total_answer
 done_counts a first count t = go (eqb (length a) 394752 && leb (first + count) 394752) refl
   where
-    told : Total → ℕ
-    told (Done t) = t
-    told Lent = 0
-
-    is_done_lem : Total → Bool
-    is_done_lem (Done t) = true
-    is_done_lem Lent = false
-
-    go : (b : Bool) → (eqb (length a) 394752 && leb (first + count) 394752) ≡ b → cond b (Done (total_of a first count)) Lent ≡ Done t → Counted a first count t
+    go : (b : Bool) → (eqb (length a) 394752 && leb (first + count) 394752) ≡ b → cond b (Ok (total_of a first count)) (Err lent) ≡ Ok t → Counted a first count t
     go true e f =
         record {
           arena = eqb-true (length a) 394752 (left (eqb (length a) 394752) (leb (first + count) 394752) e);
           within = leb-true (first + count) 394752 (right (eqb (length a) 394752) (leb (first + count) 394752) e);
-          total = ap told f;
+          total = cc;
         }
-    go false e f = absurd (true≢false (sym (ap is_done_lem f)))
+    go false e f = cc
 
 -- the same of the calls: two stretches counted, and the one that they make up
-pub neighbours_counted : (a : List Float) (first m n s t : ℕ) → total_answer a first m ≡ Done s → total_answer a (first + m) n ≡ Done t → total_answer a first (m + n) ≡ Done ((s + t) % 2 ^ 64)
+pub neighbours_counted : (a : List Float) (first m n s t : ℕ) → total_answer a first m ≡ Ok s → total_answer a (first + m) n ≡ Ok t → total_answer a first (m + n) ≡ Ok ((s + t) % 2 ^ 64)
 neighbours_counted a first m n s t e f =
     let x = done_counts a first m s e in
     let y = done_counts a (first + m) n t f in

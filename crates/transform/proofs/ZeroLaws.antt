@@ -8,6 +8,7 @@ use borrow.Author.Tests.{eqb-true}
 use lib.Dec.{eqb}
 use lib.ListN.{length, get_or, drop, replicate, drop_of_length-le}
 use lib.Seq.{drop-cons}
+use Rattle.std.specs.List.{list_all}
 use Rattle.transform.specs.Zeros.{all_zero}
 use Rattle.transform.proofs.Chain.{left, right}
 
@@ -24,6 +25,11 @@ module _ (l : List ℕ) (i : ℕ) where
 
   pub zero_none : length l ≤ i → all_zero (drop i l) ≡ true
   zero_none h = ap all_zero (drop_of_length-le l h)
+
+-- as `all` tests them
+pub zero_all : (l : List ℕ) → list_all (λ v. eqb v 0) l ≡ all_zero l
+zero_all [] = refl
+zero_all (v ∷ l) = ap (λ (t : Bool). eqb v 0 && t) (zero_all l)
 
 -- they are that many zeros
 pub zeros_of : (l : List ℕ) → all_zero l ≡ true → l ≡ replicate (length l) 0

@@ -1,9 +1,9 @@
 -- `bitstream::gather` meets its contract: v is the field of the bits from at + j on.
 -- Assumes nothing.
 use borrow.Author.Rules.{rules}
-use mathlib.Core.Path.{◌≡◌, refl, ◌∙◌}
-use Prim.Native.Nat.{◌≤◌, ◌+◌, ◌-◌}
-use native.Mathlib.Nat.{sub_self, add-zero, sub-zero}
+use mathlib.Core.Path.{refl}
+use Prim.Native.Nat.{◌+◌, ◌-◌}
+use native.Mathlib.Nat.{sub_self}
 use native.Mathlib.Omega.{arith}
 use Rattle.bitstream.specs.Bits.{field}
 use Rattle.bitstream.proofs.Laws.{field_fits, field_front}
@@ -11,7 +11,7 @@ use Rattle.bitstream.proofs.gather.Goals as goal
 
 pub loop-j-init : goal.loop-j-init
 unfolding field
-loop-j-init c = (search rules, rw sub_self refl)
+loop-j-init c = rw sub_self refl
 
 pub overflow_mul-v : goal.overflow_mul-v
 overflow_mul-v c =
@@ -29,10 +29,4 @@ pub loop-j-preserved : goal.loop-j-preserved
 loop-j-preserved c =
     let a = c.args in
     let l = c.loop-j in
-    (search rules, cc (field_front a.bytes.now a.at l.j a.n (search rules) (search rules)))
-
-pub returns : goal.returns
-returns c =
-    let a = c.args in
-    let j : c.loop-j.j ≡ 0 = search rules in
-    c.loop-j.invariant.1 ∙ simp (j, add-zero, sub-zero)
+    cc (field_front a.bytes.now a.at l.j a.n (search rules) (search rules))

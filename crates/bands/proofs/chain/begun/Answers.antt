@@ -1,43 +1,24 @@
--- `chain::begun`: the digits that come down are laid before i; the rest is `digits_eight`. Assumes nothing.
-use Rattle.std.proofs.Common.{refl, arith}
-use Rattle.bands.proofs.TableLaws.{building_none, building_more, building_all}
+-- `chain::begun`: the digits that come down are the numbers' without their first; the rest is `digits_eight`. Assumes nothing.
+use Rattle.std.proofs.Common.{◌≡◌, ℕ, ◌-◌, ◌*◌, ◌/◌, ◌%◌, ◌^◌, ◌<◌, get_or, rules, tests}
+use Rattle.bands.proofs.TableLaws.{maps_each}
 use Rattle.bands.proofs.ChainRoots.{chains_begun, chains_nearly}
 use Rattle.bands.proofs.chain.begun.Goals as goal
+use Rattle.bands.proofs.chain.begun.Goals.{After-map-rem, After-map-left}
 
-pub overflow_sub-s : goal.overflow_sub-s
-overflow_sub-s c = omega (arith, c.requires.0)
+rems : (c : After-map-rem) (k : ℕ) → k < 8 → get_or c.map-rem.result k 0 ≡ get_or c.args.last k 0 * 2 % 2 ^ 32 / 2 ^ (30 - c.args.j * 2 % 2 ^ 64)
+rems c = maps_each _ (λ x. x * 2 % 2 ^ 32 / 2 ^ (30 - c.args.j * 2 % 2 ^ 64)) _ _ _ (λ x y q k. search (rules, tests)) 8 c.map-rem.ensures.items
 
-pub loop-i-init : goal.loop-i-init
-loop-i-init c = (building_none _ _ _ _ refl, building_none _ _ _ _ refl)
-
-pub overflow_shl-left : goal.overflow_shl-left
-overflow_shl-left c = omega (arith, c.requires.0)
-
-pub loop-i-preserved : goal.loop-i-preserved
-loop-i-preserved c =
-    let l = c.loop-i in
-    (building_more _ _ _ _ _ _ c.loop-i-test.true l.invariant.0 refl, building_more _ _ _ _ _ _ c.loop-i-test.true l.invariant.1 refl)
-
-pub overflow_cast-j : goal.overflow_cast-j
-overflow_cast-j c = omega (arith, c.requires.0)
-
-pub overflow_shl-j : goal.overflow_shl-j
-overflow_shl-j c = omega (arith, c.requires.0)
-
-pub overflow_sub-j : goal.overflow_sub-j
-overflow_sub-j c = omega (arith, c.requires.0)
+lefts : (c : After-map-left) (k : ℕ) → k < 8 → get_or c.map-left.result k 0 ≡ get_or c.args.last k 0 * 2 % 2 ^ 32 * 2 ^ (32 - (30 - c.args.j * 2 % 2 ^ 64)) % 2 ^ 32
+lefts c = maps_each _ (λ x. x * 2 % 2 ^ 32 * 2 ^ (32 - (30 - c.args.j * 2 % 2 ^ 64)) % 2 ^ 32) _ _ _ (λ x y q k. search (rules, tests)) 8 c.map-left.ensures.items
 
 pub digits_eight-requires : goal.digits_eight-requires
 digits_eight-requires c =
     let p = c.requires in
-    let v = c.loop-i.invariant in
-    let e = c.loop-i-test.false in
-    chains_begun _ _ _ _ p.0 p.1 v.0.long v.1.long (building_all _ _ _ _ _ e v.0) (building_all _ _ _ _ _ e v.1)
+    chains_begun _ _ _ _ p.0 p.1 c.map-rem.ensures.items.long c.map-left.ensures.items.long
+    (rems (goal.at.digits_eight-requires c).After-map-rem) (lefts (goal.at.digits_eight-requires c).After-map-left)
 
 pub returns : goal.returns
 returns c =
-    let d = c.before in
-    let p = d.requires in
-    let v = d.loop-i.invariant in
-    let e = d.loop-i-test.false in
-    chains_nearly _ _ _ _ p.0 p.1 v.0.long v.1.long (building_all _ _ _ _ _ e v.0) (building_all _ _ _ _ _ e v.1) _ _ c.digits_eight.ensures
+    let p = c.requires in
+    chains_nearly _ _ _ _ p.0 p.1 c.map-rem.ensures.items.long c.map-left.ensures.items.long
+    (rems (goal.at.returns c).After-map-rem) (lefts (goal.at.returns c).After-map-left) _ _ c.digits_eight.ensures

@@ -37,8 +37,8 @@ offset_bounds-out-q c = omega (arith, known _ _ _ _ c.if-w-h.false c.requires.2 
 pub bounds-out-q : goal.bounds-out-q
 bounds-out-q c = omega (arith, known _ _ _ _ c.if-w-h.false c.requires.2 c.loop-x-test.true c.requires.1, c.loop-x.invariant.1)
 
-pub overflow_add-v1 : goal.overflow_add-v1
-overflow_add-v1 c = omega (arith, known _ _ _ _ c.if-w-h.false c.requires.2 c.loop-x-test.true c.requires.1)
+pub overflow_add-v : goal.overflow_add-v
+overflow_add-v c = omega (arith, known _ _ _ _ c.if-w-h.false c.requires.2 c.loop-x-test.true c.requires.1)
 
 pub offset_bounds-out-area : goal.offset_bounds-out-area
 offset_bounds-out-area c = omega (arith, known _ _ _ _ c.if-w-h.false c.requires.2 c.loop-x-test.true c.requires.1)
@@ -46,11 +46,11 @@ offset_bounds-out-area c = omega (arith, known _ _ _ _ c.if-w-h.false c.requires
 pub bounds-out-area : goal.bounds-out-area
 bounds-out-area c = omega (arith, known _ _ _ _ c.if-w-h.false c.requires.2 c.loop-x-test.true c.requires.1, c.loop-x.invariant.1)
 
-pub overflow_add-v2 : goal.overflow_add-v2
-overflow_add-v2 c = omega (arith, known _ _ _ _ c.if-w-h.false c.requires.2 c.loop-x-test.true c.requires.1)
+pub overflow_add-v-in-loop-x : goal.overflow_add-v-in-loop-x
+overflow_add-v-in-loop-x c = omega (arith, known _ _ _ _ c.if-w-h.false c.requires.2 c.loop-x-test.true c.requires.1)
 
-pub overflow_add-v2-in-loop-x : goal.overflow_add-v2-in-loop-x
-overflow_add-v2-in-loop-x c = omega (arith, known _ _ _ _ c.if-w-h.false c.requires.2 c.loop-x-test.true c.requires.1)
+pub overflow_add-v-in-loop-x-2 : goal.overflow_add-v-in-loop-x-2
+overflow_add-v-in-loop-x-2 c = omega (arith, known _ _ _ _ c.if-w-h.false c.requires.2 c.loop-x-test.true c.requires.1)
 
 pub offset_bounds-out-area-in-loop-x : goal.offset_bounds-out-area-in-loop-x
 offset_bounds-out-area-in-loop-x c = omega (arith, known _ _ _ _ c.if-w-h.false c.requires.2 c.loop-x-test.true c.requires.1)
@@ -66,9 +66,6 @@ overflow_add-row c = omega (arith, known _ _ _ _ c.if-w-h.false c.requires.2 c.l
 
 pub put-requires : goal.put-requires
 put-requires c = let k = known _ _ _ _ c.if-w-h.false c.requires.2 c.loop-x-test.true c.requires.1 in (k.1, c.loop-x.invariant.1, k.2)
-
-pub overflow_add-x : goal.overflow_add-x
-overflow_add-x c = omega (arith, known _ _ _ _ c.if-w-h.false c.requires.2 c.loop-x-test.true c.requires.1)
 
 pub loop-x-preserved : goal.loop-x-preserved
 loop-x-preserved c =

@@ -20,12 +20,6 @@ copied-from-requires c = let g = c.requires.0 in (g.wide, g.not_wider, c.loop-y-
 pub positions-s-requires : goal.positions-s-requires
 positions-s-requires c = let p = c.requires in (sized _ _ _ _ p.0 p.1, c.loop-y-test.true)
 
-pub overflow_add-y : goal.overflow_add-y
-overflow_add-y c = omega (arith, c.loop-y-test.true, c.requires.0.not_higher)
-
-pub loop-y-smaller : goal.loop-y-smaller
-loop-y-smaller c = omega (arith, c.loop-y-test.true)
-
 pub loop-y-preserved : goal.loop-y-preserved
 loop-y-preserved c =
     let a = c.args in
@@ -42,5 +36,5 @@ returns c =
     laid_all (grid_cell a.bands.now a.count a.w a.h) (a.w * a.h) (l.y * a.w) l.out
     (area_pos a.w a.h g.wide g.high) (le_trans (le_of_eq (mul_comm a.w a.h)) (mul-le-mul_right a.w c.loop-y-test.false)) l.invariant.1
 
-pub weigh_row-requires-clause-held : goal.weigh_row-requires-clause-held
-weigh_row-requires-clause-held c = let a = c.args in (c.chains-t.ensures, c.copied-from.ensures.1.lays (grid_cell a.bands.now a.count a.w a.h) (mirrored a.bands.now a.count a.w a.h) c.loop-y.invariant.1)
+pub weigh_row-requires-clause-laid : goal.weigh_row-requires-clause-laid
+weigh_row-requires-clause-laid c = let a = c.args in c.copied-from.ensures.1.lays (grid_cell a.bands.now a.count a.w a.h) (mirrored a.bands.now a.count a.w a.h) c.loop-y.invariant.1

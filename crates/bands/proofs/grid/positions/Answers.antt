@@ -1,13 +1,23 @@
 -- `grid::positions`: up to x, a multiple of 8, each position is there (`Placing`). Assumes nothing.
-use Rattle.std.proofs.Common.{◌≡◌, ℕ, ◌%◌, ◌<◌, ◌≤◌, refl, ap, ◌∙◌, arith}
+use Rattle.std.proofs.Common.{◌≡◌, ℕ, ◌+◌, ◌%◌, ◌<◌, ◌≤◌, List, sym, refl, ap, ◌∙◌, subst, arith}
 use lib.Ieee.{Float}
 use Rattle.bands.specs.Position.{position_of}
-use Rattle.bands.proofs.Cells.{placing_none, placing_more, placing_all, placing_first}
+use Rattle.bands.proofs.Cells.{Placing, placing_none, placing_more, placing_all, placing_first}
 use Rattle.bands.proofs.grid.positions.Goals as goal
+use Rattle.bands.proofs.grid.positions.Goals.{Left-loop-x, else-loop-x-test, then-loop-x-test+else-w-x-gt8}
 
 -- eight columns more stay inside
 last : (x w : ℕ) → x % 8 ≡ 0 → x < w → w ≤ 256 → x ≤ 248
 last x w e h l = omega arith
+
+-- the loop ends at a multiple of 8 from the width on
+ended : (c : Left-loop-x) → (x : ℕ) × (c.args.w ≤ x) × Placing c.args.from c.args.y c.args.count c.args.w c.args.h c.loop-x-test.all x
+ended c =
+    let a = c.args in
+    elim c.loop-x-test.branch [
+      | else-loop-x-test w ↦ (c.loop-x.x, w.loop-x-test.false, subst (λ (l : List Float). Placing a.from a.y a.count a.w a.h l c.loop-x.x) (sym w.all-is) c.loop-x.invariant)
+      | then-loop-x-test+else-w-x-gt8 w ↦ (c.loop-x.x + 8, omega arith, subst (λ (l : List Float). Placing a.from a.y a.count a.w a.h l (c.loop-x.x + 8)) (sym w.all-is) (placing_more _ _ _ _ _ _ _ _ c.loop-x.invariant w.put_positions.ensures))
+    ]
 
 pub loop-x-init : goal.loop-x-init
 loop-x-init c = placing_none _ _ _ _ _ _ _ refl (omega arith) (omega arith)
@@ -38,9 +48,6 @@ put_positions-requires c =
       m.loop-x.invariant.long,
     )
 
-pub overflow_add-x : goal.overflow_add-x
-overflow_add-x c = let m = c.before.before in omega (arith, m.loop-x-test.true, m.requires.0.not_wider)
-
 pub loop-x-smaller : goal.loop-x-smaller
 loop-x-smaller c = omega (arith, c.loop-x-test.true)
 
@@ -48,7 +55,7 @@ pub loop-x-preserved : goal.loop-x-preserved
 loop-x-preserved c = placing_more _ _ _ _ _ _ _ _ c.loop-x.invariant c.put_positions.ensures
 
 pub returns-then-y-gt0 : goal.returns-then-y-gt0
-returns-then-y-gt0 c = placing_all _ _ _ _ _ _ _ c.loop-x-test.false c.if-y-gt0.true c.loop-x.invariant
+returns-then-y-gt0 c = let e = ended (goal.at.returns-then-y-gt0 c).Left-loop-x in placing_all _ _ _ _ _ _ _ e.1 c.if-y-gt0.true e.2
 
 pub overflow_sub-w-2 : goal.overflow_sub-w-2
 overflow_sub-w-2 c = omega (arith, c.requires.0.wide)
@@ -63,5 +70,6 @@ pub returns : goal.returns
 returns c =
     let m = c.before.before.before in
     let a = m.args in
-    placing_first _ _ _ _ _ _ _ _ m.loop-x-test.false c.if-y-gt0.false m.loop-x.invariant
+    let e = ended (goal.at.returns c).Left-loop-x in
+    placing_first _ _ _ _ _ _ _ _ e.1 c.if-y-gt0.false e.2
     (c.position.ensures ∙ ap (λ (z : Float). position_of z a.count) c.distance.ensures)

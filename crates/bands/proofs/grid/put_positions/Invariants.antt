@@ -1,10 +1,6 @@
 -- `grid::put_positions`: the first i of eight columns are laid (`Laying`). Assumes nothing.
-use Rattle.std.proofs.Common.{◌-◌}
 use Rattle.bands.proofs.ColumnLaws.{Laying}
 use Rattle.bands.proofs.grid.put_positions.Given as goal
 
 abbrev pub invariant-loop-i : goal.invariant-loop-i
 invariant-loop-i l = Laying l.x l.y l.count l.right l.bottom l.initial.all l.all l.i
-
-abbrev pub decreases-loop-i : goal.decreases-loop-i
-decreases-loop-i l = 8 - l.i

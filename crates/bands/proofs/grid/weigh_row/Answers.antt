@@ -8,26 +8,20 @@ use Rattle.bands.proofs.Asserts.{place_cut}
 use Rattle.bands.proofs.Cells.{row_cell, place_in}
 use Rattle.bands.proofs.grid.weigh_row.Goals as goal
 
-pub top_chain-top-requires : goal.top_chain-top-requires
-top_chain-top-requires c = tt
-
-pub loop-x-smaller : goal.loop-x-smaller
-loop-x-smaller c = omega (arith, c.loop-x-test.true)
-
 pub returns : goal.returns
 returns c =
     let a = c.args in
     let l = c.loop-x in
-    subst (λ (x : ℕ). Laid (grid_cell a.bands.now a.count a.w a.h) (a.w * a.h) (a.y * a.w + x) l.out) (le_antisymm l.invariant.1 c.loop-x-test.false) l.invariant.2
+    subst (λ (x : ℕ). Laid (grid_cell a.lists.bands.now a.lists.count a.w a.h) (a.w * a.h) (a.y * a.w + x) l.out) (le_antisymm l.invariant.1 c.loop-x-test.false) l.invariant.2
 
-pub weigh_three-v-requires : goal.weigh_three-v-requires
-weigh_three-v-requires c =
+pub weigh_three-requires : goal.weigh_three-requires
+weigh_three-requires c =
     let a = c.args in
     let p = c.requires.sized in
     let l = c.loop-x in
     let t : l.x < a.w = c.loop-x-test.true in
     let g = p.0 in
-    (c.top_chain-top.ensures, g.few, subst (Cut a.count) (sym (p.3.each l.x l.invariant.0 t)) (place_cut a.count a.w a.h a.y l.x g.many g.few g.wide g.not_wider g.high g.not_higher p.2 t), c.requires.held.0)
+    subst (Cut a.lists.count) (sym (p.3.each l.x l.invariant.0 t)) (place_cut a.lists.count a.w a.h a.y l.x g.many g.few g.wide g.not_wider g.high g.not_higher p.2 t)
 
 pub loop-x-preserved : goal.loop-x-preserved
 loop-x-preserved c =
@@ -36,12 +30,12 @@ loop-x-preserved c =
     let l = c.loop-x in
     let t : l.x < a.w = c.loop-x-test.true in
     let m = p.3.each l.x l.invariant.0 t in
-    let v = c.weigh_three-v.ensures in
+    let v = c.weigh_three.ensures in
     let g = l.invariant.0 in (
       omega (arith, g),
       omega (arith, t),
-      laid_next (grid_cell a.bands.now a.count a.w a.h) l.out _ (a.w * a.h) (a.y * a.w + l.x) _ _ _ _ (add_assoc (a.y * a.w) l.x 1) (place_in a.y l.x a.w a.h t p.2) l.invariant.2 c.put.ensures
-          (row_cell a.y l.x a.w a.h t p.2 (band_in a.bands.now 0) a.count _ _ p.0.many m v.0)
-          (row_cell a.y l.x a.w a.h t p.2 (band_in a.bands.now 1) a.count _ _ p.0.many m v.1)
-          (row_cell a.y l.x a.w a.h t p.2 (band_in a.bands.now 2) a.count _ _ p.0.many m v.2),
+      laid_next (grid_cell a.lists.bands.now a.lists.count a.w a.h) l.out _ (a.w * a.h) (a.y * a.w + l.x) _ _ _ _ (add_assoc (a.y * a.w) l.x 1) (place_in a.y l.x a.w a.h t p.2) l.invariant.2 c.put.ensures
+          (row_cell a.y l.x a.w a.h t p.2 (band_in a.lists.bands.now 0) a.lists.count _ _ p.0.many m v.0)
+          (row_cell a.y l.x a.w a.h t p.2 (band_in a.lists.bands.now 1) a.lists.count _ _ p.0.many m v.1)
+          (row_cell a.y l.x a.w a.h t p.2 (band_in a.lists.bands.now 2) a.lists.count _ _ p.0.many m v.2),
     )

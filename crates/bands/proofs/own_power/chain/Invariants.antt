@@ -1,10 +1,6 @@
--- `own_power::chain` meets its contract: up to j the list holds the chain's numbers, and `last` is the next one (`Filling`). Assumes nothing.
-use Rattle.std.proofs.Common.{◌-◌}
+-- `own_power::chain` meets its contract: up to the place of `root` the list holds the chain's numbers, and `last` is the next one (`Filling`). Assumes nothing.
 use Rattle.bands.proofs.ChainLists.{Filling}
 use Rattle.bands.proofs.own_power.chain.Given as goal
 
-abbrev pub invariant-loop-j : goal.invariant-loop-j
-invariant-loop-j l = Filling l.s l.roots l.last l.j
-
-abbrev pub decreases-loop-j : goal.decreases-loop-j
-decreases-loop-j l = 33 - l.j
+abbrev pub invariant-loop-root : goal.invariant-loop-root
+invariant-loop-root l = Filling l.s l.root-items l.last l.root-index

@@ -28,20 +28,20 @@ module _ (c : After-chain-roots) where
   links = record { is = c.chain-roots.ensures ∙ ap (λ (s : ℕ). chain_from s 33) (sym (first_of _ c.chain-roots.result c.chain-roots.ensures)); low = low; high = high }
 
 begins : (c : After-row) → Starts c.row.result
-begins c = let d = c.before.before.before.before in row_starts _ _ _ (low d) (high d) d.ranges.n.fits c.row.ensures
+begins c = let d = (goal.at.second-requires c).After-chain-roots in row_starts _ _ _ (low d) (high d) d.ranges.n.fits c.row.ensures
 
 pub second-requires : goal.second-requires
-second-requires c = let d = c.before.before.before.before in (c.top_chain-top.ensures, few d, d.ranges.n.fits, begins c)
+second-requires c = let d = (goal.at.second-requires c).After-chain-roots in (few d, d.ranges.n.fits, begins c)
 
 pub finish-requires : goal.finish-requires
 finish-requires c =
-    let d = c.before.before.before.before.before in
+    let d = (goal.at.finish-requires c).After-chain-roots in
     let z = second_range _ _ _ _ (begins c.before) c.second.ensures in
     (few d, d.ranges.n.fits, z.0, z.1)
 
 pub returns : goal.returns
 returns c =
-    let d = c.before.before.before.before.before.before in
+    let d = (goal.at.returns c).After-chain-roots in
     let a = d.args in
     let e = d.start_of-s.result.e in
     c.finish.ensures
@@ -49,4 +49,4 @@ returns c =
     ∙ power_is a.q (held d.before.before) _ e a.n (start d) d.start_of-s.ensures.0
 
 pub row-requires-clause-chain : goal.row-requires-clause-chain
-row-requires-clause-chain c = links c.before.before.before
+row-requires-clause-chain c = links (goal.at.row-requires-clause-chain c).After-chain-roots

@@ -4,7 +4,7 @@ use Rattle.bands.proofs.QuantLaws.{channel_fits, part_length, channels_none, cha
 use Rattle.bands.proofs.quant.all_bands.Goals as goal
 
 pub loop-c-init : goal.loop-c-init
-loop-c-init c = (omega arith, refl, channels_none _ _ _)
+loop-c-init c = (refl, channels_none _ _ _)
 
 pub overflow_mul-at : goal.overflow_mul-at
 overflow_mul-at c =
@@ -51,10 +51,7 @@ lay_bands-requires c =
     let l = c.loop-c in
     let t : l.c < 3 = c.loop-c-test.true in
     let e = part_length a.numbers.now a.count l.c p.2 t in
-    (omega (arith, t), l.invariant.1, omega (arith, e, p.0), omega (arith, e, p.1))
-
-pub loop-c-smaller : goal.loop-c-smaller
-loop-c-smaller c = omega (arith, c.loop-c-test.true)
+    (omega (arith, t), l.invariant.0, omega (arith, e, p.0), omega (arith, e, p.1))
 
 pub loop-c-preserved : goal.loop-c-preserved
 loop-c-preserved c =
@@ -63,7 +60,7 @@ loop-c-preserved c =
     let l = c.loop-c in
     let t : l.c < 3 = c.loop-c-test.true in
     let b = c.lay_bands.ensures in
-    (omega (arith, t), b.long ∙ l.invariant.1, channels_more a.numbers.now a.count l.c l.all _ p.2 t p.1 l.invariant.2 b)
+    (b.long ∙ l.invariant.0, channels_more a.numbers.now a.count l.c l.all _ p.2 t p.1 l.invariant.1 b)
 
 pub returns : goal.returns
-returns c = channels_all _ _ _ _ c.loop-c-test.false c.loop-c.invariant.2
+returns c = channels_all _ _ _ _ c.loop-c-test.false c.loop-c.invariant.1

@@ -4,7 +4,7 @@ use Rattle.bands.proofs.QuantLaws.{channel_fits, sound_part, answer_none, answer
 use Rattle.bands.proofs.quant.band_answer.Goals as goal
 
 pub loop-c-init : goal.loop-c-init
-loop-c-init c = (omega arith, answer_none _ _)
+loop-c-init c = answer_none _ _
 
 pub overflow_mul-at : goal.overflow_mul-at
 overflow_mul-at c =
@@ -48,17 +48,15 @@ pub returns-then-s-count : goal.returns-then-s-count
 returns-then-s-count c =
     let a = c.args in
     let k = c.loop-c.c in
-    answer_stop a.numbers.now a.count k c.sound_bands-s.result c.loop-c-test.true c.loop-c.invariant.1
+    answer_stop a.numbers.now a.count k c.sound_bands-s.result c.loop-c-test.true c.loop-c.invariant
     (sound_part a.numbers.now a.count k c.sound_bands-s.result c.requires.1 c.loop-c-test.true c.sound_bands-s.ensures) c.if-s-count.true
 
 pub loop-c-preserved : goal.loop-c-preserved
 loop-c-preserved c =
     let a = c.args in
-    let k = c.loop-c.c in (
-      omega arith,
-      answer_on a.numbers.now a.count k c.sound_bands-s.result c.loop-c.invariant.1
-          (sound_part a.numbers.now a.count k c.sound_bands-s.result c.requires.1 c.loop-c-test.true c.sound_bands-s.ensures) c.if-s-count.false,
-    )
+    let k = c.loop-c.c in
+    answer_on a.numbers.now a.count k c.sound_bands-s.result c.loop-c.invariant
+    (sound_part a.numbers.now a.count k c.sound_bands-s.result c.requires.1 c.loop-c-test.true c.sound_bands-s.ensures) c.if-s-count.false
 
 pub returns : goal.returns
-returns c = answer_all c.args.numbers.now c.args.count c.loop-c.c c.loop-c-test.false c.loop-c.invariant.0 c.loop-c.invariant.1
+returns c = answer_all c.args.numbers.now c.args.count c.loop-c.c c.loop-c-test.false c.loop-c.auto.c-end c.loop-c.invariant

@@ -5,10 +5,16 @@ use Rattle.bands.proofs.QuantLaws.{answer_lent, answer_right, leaves_as, all_don
 use Rattle.bands.proofs.quant.dct_quant_weights.Goals as goal
 
 pub band_answer-answer-requires : goal.band_answer-answer-requires
-band_answer-answer-requires c = let a = c.args in let e = sym c.lent_right.ensures ∙ c.if-not-lent_right.false in ((lent_is_grid (length a.numbers.now) a.count a.width a.height (length a.out.now) e).few, lent_numbers_are (length a.numbers.now) a.count a.width a.height (length a.out.now) e)
+band_answer-answer-requires c =
+    let a = c.args in
+    let e = sym c.lent_right.ensures ∙ c.if-not-lent_right.false in
+    ((lent_is_grid (length a.numbers.now) a.count a.width a.height (length a.out.now) e).few, lent_numbers_are (length a.numbers.now) a.count a.width a.height (length a.out.now) e)
 
 pub weigh_all-requires : goal.weigh_all-requires
-weigh_all-requires c = let a = c.args in let e = sym c.lent_right.ensures ∙ c.if-not-lent_right.false in (lent_numbers_are (length a.numbers.now) a.count a.width a.height (length a.out.now) e, lent_is_grid (length a.numbers.now) a.count a.width a.height (length a.out.now) e)
+weigh_all-requires c =
+    let a = c.args in
+    let e = sym c.lent_right.ensures ∙ c.if-not-lent_right.false in
+    (lent_numbers_are (length a.numbers.now) a.count a.width a.height (length a.out.now) e, lent_is_grid (length a.numbers.now) a.count a.width a.height (length a.out.now) e)
 
 pub returns-then-not-lent_right : goal.returns-then-not-lent_right
 returns-then-not-lent_right c =
@@ -16,24 +22,22 @@ returns-then-not-lent_right c =
     let e = answer_lent a.numbers.now a.count a.width a.height a.out.now (sym c.lent_right.ensures ∙ c.if-not-lent_right.true) in
     record { answer = e; left = leaves_as a.numbers.now a.count a.width a.height a.out.now _ e }
 
-pub returns-then-is_done : goal.returns-then-is_done
-returns-then-is_done c =
+pub returns-in-Ok : goal.returns-in-Ok
+returns-in-Ok c =
     let a = c.args in
     let e = sym c.lent_right.ensures ∙ c.if-not-lent_right.false in
-    let b = c.band_answer-answer in
-    let d = sym c.is_done.ensures ∙ c.if-is_done.true in
+    let b = c.band_answer-answer.ensures in
     record {
-      answer = b.ensures ∙ answer_right a.numbers.now a.count a.width a.height a.out.now e;
-      left = c.weigh_all.ensures ∙ all_done a.numbers.now a.count a.width a.height a.out.now b.result b.ensures e d;
+      answer = b ∙ answer_right a.numbers.now a.count a.width a.height a.out.now e;
+      left = c.weigh_all.ensures ∙ all_done a.numbers.now a.count a.width a.height a.out.now e (sym b ∙ c.in-Ok.is);
     }
 
-pub returns : goal.returns
-returns c =
+pub returns-in-Err : goal.returns-in-Err
+returns-in-Err c =
     let a = c.args in
     let e = sym c.lent_right.ensures ∙ c.if-not-lent_right.false in
-    let b = c.band_answer-answer in
-    let d = sym c.is_done.ensures ∙ c.if-is_done.false in
+    let b = c.band_answer-answer.ensures in
     record {
-      answer = b.ensures ∙ answer_right a.numbers.now a.count a.width a.height a.out.now e;
-      left = c.clear.ensures ∙ all_zero_lem a.numbers.now a.count a.width a.height a.out.now b.result b.ensures e d;
+      answer = b ∙ answer_right a.numbers.now a.count a.width a.height a.out.now e;
+      left = c.clear.ensures ∙ all_zero_lem a.numbers.now a.count a.width a.height a.out.now _ e (sym b ∙ c.in-Err.is);
     }

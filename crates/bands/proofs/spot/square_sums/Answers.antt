@@ -17,15 +17,15 @@ pub float_to_bits-b : goal.float_to_bits-b
 float_to_bits-b c =
     let m = c.before.before.before.before in
     let p = m.requires in
-    sum_number m.least.result _ _ _ (le_trans (le_of_eq m.least.ensures) (min-le_right _ _)) p.wide p.not_wider p.low p.high p.not_higher
+    sum_number m.min.result _ _ _ (le_trans (le_of_eq m.min.ensures) (min-le_right _ _)) p.wide p.not_wider p.low p.high p.not_higher
 
 pub loop-i-preserved : goal.loop-i-preserved
 loop-i-preserved c =
     let m = c.before.before.before.before.before in
     let l = m.loop-i in
     let a = m.args in
-    let e : to_bits binary32 (sum_of m.least.result a.y a.right a.bottom) ≡ sum_bits a.x a.y a.right a.bottom l.i =
-    ap (λ (z : ℕ). to_bits binary32 (sum_of z a.y a.right a.bottom)) m.least.ensures in (
+    let e : to_bits binary32 (sum_of m.min.result a.y a.right a.bottom) ≡ sum_bits a.x a.y a.right a.bottom l.i =
+    ap (λ (z : ℕ). to_bits binary32 (sum_of z a.y a.right a.bottom)) m.min.ensures in (
       building_more _ _ _ _ _ _ m.loop-i-test.true l.invariant.0 e,
       building_more _ _ _ _ _ _ m.loop-i-test.true l.invariant.1 (c.raised.ensures ∙ ap raised_of e),
     )

@@ -41,3 +41,10 @@ returns c = let a = c.before.before.before.before in holding_all _ _ _ _ _ _ a.p
 pub loop-p-preserved : goal.loop-p-preserved
 loop-p-preserved c =
     holding_more _ _ _ _ _ _ c.put_starts-waiting.ensures _ _ _ _ _ (holding_inside _ _ _ _ _ _ c.put_starts-waiting.ensures _ _ c.loop-p-test.true c.loop-p.invariant) c.eight.ensures c.eight-in-loop-p.ensures c.put_chains.ensures c.loop-p.invariant
+
+-- the last eight
+pub returns-2 : goal.returns-2
+returns-2 c =
+    let t = c.put_starts-waiting.ensures in
+    holding_all _ _ _ _ _ _ t _ (c.loop-p.p + 8) c.requires (omega arith)
+    (holding_more _ _ _ _ _ _ t _ _ _ _ _ (holding_inside _ _ _ _ _ _ t _ _ c.loop-p-test.true c.loop-p.invariant) c.eight.ensures c.eight-in-loop-p.ensures c.put_chains.ensures c.loop-p.invariant)

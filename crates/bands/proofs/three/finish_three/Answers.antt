@@ -8,16 +8,16 @@ pub returns : goal.returns
 returns c =
     let a = c.args in
     let s = c.seconds-y.ensures in (
-      c.finish.ensures ∙ ap (λ (y : ℕ). finished a.e0 a.n y) s.0,
-      c.finish-2.ensures ∙ ap (λ (y : ℕ). finished a.e1 a.n y) s.1,
-      c.finish-3.ensures ∙ ap (λ (y : ℕ). finished a.e2 a.n y) s.2,
+      c.finish.ensures ∙ ap (λ (y : ℕ). finished a.e.a a.n y) s.0,
+      c.finish-2.ensures ∙ ap (λ (y : ℕ). finished a.e.b a.n y) s.1,
+      c.finish-3.ensures ∙ ap (λ (y : ℕ). finished a.e.c a.n y) s.2,
     )
 
 pub finish-requires : goal.finish-requires
-finish-requires c = let p = c.requires in let z = second_range _ _ _ _ p.starts.0 c.seconds-y.ensures.0 in (p.top_value.1, p.top_value.4, z.0, z.1)
+finish-requires c = let p = c.requires in let z = second_range _ _ _ _ p.starts.0 c.seconds-y.ensures.0 in (p.few.0, p.few.3, z.0, z.1)
 
 pub finish-requires-2 : goal.finish-requires-2
-finish-requires-2 c = let p = c.requires in let z = second_range _ _ _ _ p.starts.1 c.seconds-y.ensures.1 in (p.top_value.2, p.top_value.4, z.0, z.1)
+finish-requires-2 c = let p = c.requires in let z = second_range _ _ _ _ p.starts.1 c.seconds-y.ensures.1 in (p.few.1, p.few.3, z.0, z.1)
 
 pub finish-requires-3 : goal.finish-requires-3
-finish-requires-3 c = let p = c.requires in let z = second_range _ _ _ _ p.starts.2 c.seconds-y.ensures.2 in (p.top_value.3, p.top_value.4, z.0, z.1)
+finish-requires-3 c = let p = c.requires in let z = second_range _ _ _ _ p.starts.2 c.seconds-y.ensures.2 in (p.few.2, p.few.3, z.0, z.1)

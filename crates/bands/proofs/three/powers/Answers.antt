@@ -16,9 +16,9 @@ returns c =
     let t = d.args.t.now in
     let at = d.args.at in
     let p = d.requires in
-    let r = c.rows-y.ensures in
+    let r = c.rows.ensures in
     let f = c.finish_three.ensures in
-    (ready_power t at _ p.2 refl _ _ _ r.0 f.0, ready_power t (at + 34) _ p.3 (second_chain at) _ _ _ r.1 f.1, ready_power t (at + 34 + 34) _ p.4 (third_chain at) _ _ _ r.2 f.2)
+    (ready_power t at _ p.1 refl _ _ _ r.0 f.0, ready_power t (at + 34) _ p.2 (second_chain at) _ _ _ r.1 f.1, ready_power t (at + 34 + 34) _ p.3 (third_chain at) _ _ _ r.2 f.2)
 
 pub finish_three-requires-clause-starts : goal.finish_three-requires-clause-starts
 finish_three-requires-clause-starts c =
@@ -26,5 +26,5 @@ finish_three-requires-clause-starts c =
     let at = c.args.at in
     let p = c.requires in
     let N = c.ranges.n.fits in
-    let r = c.rows-y.ensures in
-    (ready_starts t at _ p.2 refl _ _ N r.0, ready_starts t (at + 34) _ p.3 (second_chain at) _ _ N r.1, ready_starts t (at + 34 + 34) _ p.4 (third_chain at) _ _ N r.2)
+    let r = c.rows.ensures in
+    (ready_starts t at _ p.1 refl _ _ N r.0, ready_starts t (at + 34) _ p.2 (second_chain at) _ _ N r.1, ready_starts t (at + 34 + 34) _ p.3 (third_chain at) _ _ N r.2)

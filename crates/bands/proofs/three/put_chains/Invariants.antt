@@ -1,10 +1,6 @@
 -- `three::put_chains`: j numbers of each of eight chains are laid (`Linking`). Assumes nothing.
-use Rattle.std.proofs.Common.{◌-◌}
 use Rattle.bands.proofs.Tables.{Linking}
 use Rattle.bands.proofs.three.put_chains.Given as goal
 
 abbrev pub invariant-loop-j : goal.invariant-loop-j
 invariant-loop-j l = Linking l.initial.all l.at l.initial.last l.all l.last l.j
-
-abbrev pub decreases-loop-j : goal.decreases-loop-j
-decreases-loop-j l = 33 - l.j

@@ -1,10 +1,6 @@
 -- `three::put_eight`: the first i of eight numbers are laid (`Scattering`). Assumes nothing.
-use Rattle.std.proofs.Common.{◌-◌}
 use Rattle.bands.proofs.Tables.{Scattering}
 use Rattle.bands.proofs.three.put_eight.Given as goal
 
 abbrev pub invariant-loop-i : goal.invariant-loop-i
 invariant-loop-i l = Scattering l.initial.all l.at l.j l.l l.all l.i
-
-abbrev pub decreases-loop-i : goal.decreases-loop-i
-decreases-loop-i l = 8 - l.i

@@ -1,5 +1,5 @@
 -- `three::put_starts`: exponents and starts of the ratios before p are there (`Starting`). Assumes nothing.
-use Rattle.std.proofs.Common.{◌+◌, ◌<◌, ◌≤◌, arith}
+use Rattle.std.proofs.Common.{◌≡◌, ℕ, ◌+◌, ◌-◌, ◌*◌, ◌<◌, ◌≤◌, arith}
 use Rattle.bands.proofs.Tables.{starting_none, starting_more, starting_all}
 use Rattle.bands.proofs.three.put_starts.Goals as goal
 use Rattle.bands.proofs.three.put_starts.Goals.{In-loop-p}
@@ -8,14 +8,14 @@ use Rattle.bands.proofs.three.put_starts.Goals.{In-loop-p}
 inside : (m : In-loop-p) → (m.loop-p.p < 45) × (m.loop-p.band + 1 < 48) × (m.loop-p.n ≤ m.loop-p.p)
 inside m =
     let l = m.loop-p in
-    let h : l.p < 45 = omega (arith, m.loop-p-test.true, m.requires.0) in
+    let h : l.p < 45 = omega (arith, m.requires.0) in
     (h, omega (arith, l.invariant.place), l.invariant.less)
+
+more : (p n e : ℕ) → e ≡ n * 3 - 3 → p < e → p + 3 < n * 3
+more p n e q h = omega arith
 
 pub loop-p-init : goal.loop-p-init
 loop-p-init c = starting_none _ _ _ c.requires.0 c.requires.1
-
-pub overflow_add-p : goal.overflow_add-p
-overflow_add-p c = omega (arith, c.loop-p.invariant.few)
 
 pub overflow_mul-count : goal.overflow_mul-count
 overflow_mul-count c = omega (arith, c.requires.0)
@@ -41,16 +41,13 @@ overflow_mul-all c = omega (arith, inside c.before.before.before)
 pub offset_bounds-all-p : goal.offset_bounds-all-p
 offset_bounds-all-p c = omega (arith, inside c.before.before.before)
 
-pub loop-p-smaller : goal.loop-p-smaller
-loop-p-smaller c = omega (arith, c.loop-p-test.true)
-
 pub loop-p-preserved : goal.loop-p-preserved
 loop-p-preserved c =
     let k = c.before in
     let a = k.before in
     let m = a.before.before.before in
     let e = a.start_of-q.ensures in
-    starting_more _ _ _ _ _ _ _ _ _ _ m.loop-p-test.true m.requires.0 m.loop-p.invariant e.0 e.1 _ k.counted-n.ensures _ c.across-band.ensures
+    starting_more _ _ _ _ _ _ _ _ _ _ (more _ _ _ m.saturating_sub-p-end.ensures m.loop-p-test.true) m.requires.0 m.loop-p.invariant e.0 e.1 _ k.counted-n.ensures _ c.across-band.ensures
 
 pub returns : goal.returns
-returns c = starting_all _ _ _ _ _ _ _ _ c.requires.0 c.loop-p-test.false c.loop-p.invariant
+returns c = starting_all _ _ _ _ _ _ _ _ c.requires.0 (omega arith) c.loop-p.invariant

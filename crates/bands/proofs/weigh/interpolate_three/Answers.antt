@@ -21,17 +21,17 @@ pub powers-p-requires : goal.powers-p-requires
 powers-p-requires c =
     let a = c.args in
     let k = c.requires.at_bound in
-    (c.requires.top_value.0, k.0, ready a.t.now a.at a.s0 k.1, ready a.t.now (a.at + 34) a.s1 k.2, ready a.t.now (a.at + 34 + 34) a.s2 k.3)
+    (k.0, ready a.t.now a.at a.s.a k.1, ready a.t.now (a.at + 34) a.s.b k.2, ready a.t.now (a.at + 34 + 34) a.s.c k.3)
 
 pub returns : goal.returns
 returns c =
     let d = c in
     let a = d.args in
-    let f = d.requires.top_value in
+    let f = d.requires.fraction in
     let k = d.requires.at_bound in
     let n = d.steps.ensures in
     let p = d.powers-p.ensures in (
-      weight a.t.now a.at _ a.s0 _ _ k.1 n refl p.0,
-      weight a.t.now (a.at + 34) _ a.s1 _ _ k.2 n f.2 p.1,
-      weight a.t.now (a.at + 34 + 34) _ a.s2 _ _ k.3 n f.3 p.2,
+      weight a.t.now a.at _ a.s.a _ _ k.1 n refl p.0,
+      weight a.t.now (a.at + 34) _ a.s.b _ _ k.2 n f.1 p.1,
+      weight a.t.now (a.at + 34 + 34) _ a.s.c _ _ k.3 n f.2 p.2,
     )

@@ -24,21 +24,19 @@ module _ (l : List Float) (n : ℕ) (t : List ℕ) (few : n ≤ 16) (h : Held l 
 pub returns : goal.returns
 returns c =
     let a = c.args in
-    let p = c.requires in
     let x = c.index-i in
     let r = c.interpolate_three.ensures in (
-      weight a.bands.now a.count a.t.now p.1 p.3 0 x.result (x.result * 102) (lit< tt) a.p x.ensures.0 x.ensures.1 (omega arith) _ c.cut_at-s0.ensures _ r.0,
-      weight a.bands.now a.count a.t.now p.1 p.3 1 x.result (x.result * 102 + 34) (lit< tt) a.p x.ensures.0 x.ensures.1 (omega arith) _ c.cut_at-s1.ensures _ r.1,
-      weight a.bands.now a.count a.t.now p.1 p.3 2 x.result (x.result * 102 + 34 + 34) (lit< tt) a.p x.ensures.0 x.ensures.1 (omega arith) _ c.cut_at-s2.ensures _ r.2,
+      weight a.lists.bands.now a.lists.count a.lists.t.now a.lists.few a.lists.held 0 x.result (x.result * 102) (lit< tt) a.p x.ensures.0 x.ensures.1 (omega arith) _ c.cut_at.ensures _ r.0,
+      weight a.lists.bands.now a.lists.count a.lists.t.now a.lists.few a.lists.held 1 x.result (x.result * 102 + 34) (lit< tt) a.p x.ensures.0 x.ensures.1 (omega arith) _ c.cut_at-2.ensures _ r.1,
+      weight a.lists.bands.now a.lists.count a.lists.t.now a.lists.few a.lists.held 2 x.result (x.result * 102 + 34 + 34) (lit< tt) a.p x.ensures.0 x.ensures.1 (omega arith) _ c.cut_at-3.ensures _ r.2,
     )
 
 pub interpolate_three-requires-clause-at_bound : goal.interpolate_three-requires-clause-at_bound
 interpolate_three-requires-clause-at_bound c =
     let a = c.args in
-    let p = c.requires in
     let x = c.index-i in (
-      omega (arith, x.ensures.1, p.1),
-      ratio a.bands.now a.count a.t.now p.1 p.3 0 x.result _ (lit< tt) a.p x.ensures.0 x.ensures.1 (omega arith) _ c.cut_at-s0.ensures,
-      ratio a.bands.now a.count a.t.now p.1 p.3 1 x.result _ (lit< tt) a.p x.ensures.0 x.ensures.1 (omega arith) _ c.cut_at-s1.ensures,
-      ratio a.bands.now a.count a.t.now p.1 p.3 2 x.result _ (lit< tt) a.p x.ensures.0 x.ensures.1 (omega arith) _ c.cut_at-s2.ensures,
+      omega (arith, x.ensures.1, a.lists.few),
+      ratio a.lists.bands.now a.lists.count a.lists.t.now a.lists.few a.lists.held 0 x.result _ (lit< tt) a.p x.ensures.0 x.ensures.1 (omega arith) _ c.cut_at.ensures,
+      ratio a.lists.bands.now a.lists.count a.lists.t.now a.lists.few a.lists.held 1 x.result _ (lit< tt) a.p x.ensures.0 x.ensures.1 (omega arith) _ c.cut_at-2.ensures,
+      ratio a.lists.bands.now a.lists.count a.lists.t.now a.lists.few a.lists.held 2 x.result _ (lit< tt) a.p x.ensures.0 x.ensures.1 (omega arith) _ c.cut_at-3.ensures,
     )

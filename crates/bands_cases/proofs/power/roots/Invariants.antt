@@ -1,8 +1,5 @@
-use Rattle.std.proofs.Common.{◌-◌, ◌<◌, ◌^◌}
+use Rattle.std.proofs.Common.{◌<◌, ◌^◌}
 use Rattle.bands_cases.proofs.power.roots.Given as goal
 
-abbrev pub invariant-loop-i : goal.invariant-loop-i
-invariant-loop-i g l = l.x < 2 ^ 32
-
-abbrev pub decreases-loop-i : goal.decreases-loop-i
-decreases-loop-i g l = 60 - l.i
+abbrev pub invariant-loop : goal.invariant-loop
+invariant-loop g l = l.x < 2 ^ 32

@@ -7,4 +7,4 @@ pub float_from_bits-factor : goal.float_from_bits-factor
 float_from_bits-factor c = factor_number c.args.x (search rules)
 
 pub returns : goal.returns
-returns c = scaled_is c.args.q c.args.x (search rules) (search rules)
+returns c = rw c.from.ensures (scaled_is c.args.q c.args.x (search rules) (search rules))

@@ -16,14 +16,14 @@ magnitude : (c : Joined-e-gt0) → c.if-e-gt0.v ≡ round binary32 false (size_i
 magnitude c =
     let h = c.args.h in
     elim c.if-e-gt0.branch [
-      | then-e-gt0 w ↦ w.v-is ∙ w.scaled-v-then-e-gt0.ensures ∙ ap (λ (n : ℕ). round binary32 false n (2 ^ 24)) (size_some (h / 1024 % 32) (h % 1024) w.if-e-gt0.true)
-      | else-e-gt0 w ↦ w.v-is ∙ c.scaled-v.ensures ∙ ap (λ (n : ℕ). round binary32 false n (2 ^ 24)) (size_none (h / 1024 % 32) (h % 1024) (omega arith))
+      | then-e-gt0 w ↦ w.v-is ∙ w.scaled-v.ensures ∙ rw w.from.ensures (ap (λ (n : ℕ). round binary32 false n (2 ^ 24)) (size_some (h / 1024 % 32) (h % 1024) w.if-e-gt0.true))
+      | else-e-gt0 w ↦ w.v-is ∙ w.scaled-v-else-e-gt0.ensures ∙ ap (λ (n : ℕ). round binary32 false n (2 ^ 24)) (size_none (h / 1024 % 32) (h % 1024) (omega arith))
     ]
 
 pub returns-then-h-ge32768 : goal.returns-then-h-ge32768
 unfolding half
 returns-then-h-ge32768 c = rw (le-leb 32768 c.args.h (search rules)) (ap neg (magnitude c.before) ∙ neg_round binary32 false _ _)
 
-pub returns : goal.returns
+pub returns-else-h-ge32768 : goal.returns-else-h-ge32768
 unfolding half
-returns c = rw (lt-leb 32768 c.args.h (search rules)) (magnitude c.before)
+returns-else-h-ge32768 c = rw (lt-leb 32768 c.args.h (search rules)) (magnitude c.before)

@@ -9,7 +9,7 @@ use Rattle.dequant.proofs.Parts.{is_found, span_end}
 use Rattle.capi.specs.Said.{said_of}
 use Rattle.capi.proofs.Places.{unknown_order, not_there, worked_out}
 use Rattle.capi.proofs.shown.said_part.Goals as goal
-use Rattle.capi.proofs.shown.said_part.Goals.{After-arena_start}
+use Rattle.capi.proofs.shown.said_part.Goals.{After-arena_start, then-order-gt2-via-then-order-gt2, then-order-gt2-via-else-order-gt2+then-not-names}
 
 yes : (c : After-arena_start) → found c.args.kind c.args.channel c.args.s c.args.t ≡ true
 yes c = sym c.names.ensures ∙ c.if-not-names.false
@@ -22,7 +22,11 @@ ends c =
 pub returns-then-order-gt2 : goal.returns-then-order-gt2
 returns-then-order-gt2 c =
     let a = c.args in
-    c.made.ensures ∙ ap said_of (unknown_order a.s a.t a.kind a.channel a.order c.if-order-gt2.true)
+    c.made.ensures
+    ∙ ap said_of (elim c.then-order-gt2.branch [
+      | then-order-gt2-via-then-order-gt2 w ↦ unknown_order a.s a.t a.kind a.channel a.order w.if-order-gt2.true
+      | then-order-gt2-via-else-order-gt2+then-not-names w ↦ not_there a.s a.t a.kind a.channel a.order w.if-order-gt2.false (sym w.names.ensures ∙ w.if-not-names.true)
+    ])
 
 pub overflow_mul-first : goal.overflow_mul-first
 overflow_mul-first c = omega (arith, ends c)
@@ -35,8 +39,3 @@ returns c =
     let a = c.args in
     c.made-2.ensures
     ∙ ap said_of (worked_out a.s a.t a.kind a.channel a.order c.arena_no.result c.arena_start.result c.area-area.result c.if-order-gt2.false (sym c.names.ensures ∙ c.if-not-names.false) c.arena_no.ensures c.arena_start.ensures c.area-area.ensures)
-
-pub returns-then-not-names : goal.returns-then-not-names
-returns-then-not-names c =
-    let a = c.args in
-    c.made-then-not-names.ensures ∙ ap said_of (not_there a.s a.t a.kind a.channel a.order c.if-order-gt2.false (sym c.names.ensures ∙ c.if-not-names.true))

@@ -7,6 +7,6 @@ pub returns-then-x : goal.returns-then-x
 unfolding of_bits
 returns-then-x c = rounds_high c.args.x c.if-x.true
 
-pub returns : goal.returns
+pub returns-else-x : goal.returns-else-x
 unfolding of_bits
-returns c = rounds_low c.args.x c.if-x.false
+returns-else-x c = rounds_low c.args.x c.if-x.false

@@ -1,10 +1,8 @@
 -- `set::first_odd` meets its contract. The loop's invariant: no kind before this one is raw with such a denominator. Assumes nothing.
-use mathlib.Core.Path.{refl, sym, ap, ◌∙◌}
+use mathlib.Core.Path.{sym, ap, ◌∙◌}
 use mathlib.Core.Bool.{not}
 use native.Mathlib.Omega.{arith}
-use borrow.Author.Rules.{rules}
-use Rattle.transform.specs.First.{before}
-use Rattle.transform.proofs.FirstLaws.{before_more, before_stop, before_all}
+use Rattle.transform.proofs.FirstLaws.{before_none, before_more, before_stop, before_all}
 use Rattle.matrix.specs.Raw.{odd_row}
 use Rattle.dequant.specs.Set.{denom_fault}
 use Rattle.dequant.proofs.Lent.{not_odd}
@@ -12,7 +10,7 @@ use Rattle.dequant.proofs.Kindwise.{cut_row}
 use Rattle.dequant.proofs.set.first_odd.Goals as goal
 
 pub loop-k-init : goal.loop-k-init
-loop-k-init c = (search rules, unfold before in refl)
+loop-k-init c = before_none (not_odd c.args.rows.now)
 
 pub returns-then-is_odd : goal.returns-then-is_odd
 unfolding denom_fault
@@ -20,17 +18,17 @@ returns-then-is_odd c =
     let rows = c.args.rows.now in
     let l = c.loop-k in
     let odd = sym (c.is_odd.ensures ∙ ap odd_row (cut_row l.k rows)) ∙ c.if-is_odd.true in
-    sym (before_stop (not_odd rows) l.k 17 l.invariant.1 (ap not odd) c.loop-k-test.true)
+    (sym (before_stop (not_odd rows) l.k 17 l.invariant (ap not odd) c.loop-k-test.true), c.loop-k-test.true)
 
 pub loop-k-preserved : goal.loop-k-preserved
 loop-k-preserved c =
     let rows = c.args.rows.now in
     let l = c.loop-k in
     let above = sym (c.is_odd.ensures ∙ ap odd_row (cut_row l.k rows)) ∙ c.if-is_odd.false in
-    (omega arith, before_more (not_odd rows) l.k l.invariant.1 (ap not above))
+    before_more (not_odd rows) l.k l.invariant (ap not above)
 
 pub returns : goal.returns
 unfolding denom_fault
 returns c =
     let l = c.loop-k in
-    before_all (not_odd c.args.rows.now) l.k 17 l.invariant.1 l.invariant.0 (omega arith)
+    omega (arith, before_all (not_odd c.args.rows.now) l.k 17 l.invariant (omega arith) (omega arith))

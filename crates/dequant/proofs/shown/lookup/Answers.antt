@@ -1,98 +1,46 @@
--- `shown::lookup` meets its contract, by its three orders. Assumes nothing.
-use mathlib.Core.Path.{sym, ap, ◌∙◌}
+-- `shown::lookup` meets its contract: what lies in both arenas lies in the one that the order names. Assumes nothing.
+use mathlib.Core.Path.{◌≡◌, ap, ◌∙◌}
 use native.Mathlib.Omega.{arith}
-use Rattle.dequant.specs.declared.shown.Order.{Order}
-use Rattle.dequant.specs.declared.shown.Order.TheVariants.{Unnamed, Straight, Transposed}
-use Rattle.dequant.specs.Shown.{shown}
-use Rattle.dequant.proofs.Parts.{within, shown_is}
+use lib.Ieee.{Float}
+use lib.ListN.{length}
+use mathlib.Core.List.{List}
+use denote.Bor.{Bor}
+use Rattle.dequant.specs.Shown.{named}
+use Rattle.dequant.proofs.Parts.{Inside, inside, named_straight, named_transposed, shown_is}
 use Rattle.dequant.proofs.shown.lookup.Goals as goal
+use Rattle.dequant.proofs.shown.lookup.Goals.{After-span_of, in-Straight, in-Unnamed}
 
-pub offset_bounds-transposed-at : goal.offset_bounds-transposed-at
-offset_bounds-transposed-at c =
-    let a = c.args in
-    let i = within a.straight.now a.transposed.now a.kind a.channel c.span_of-p.result c.span_of-p.ensures in
-    omega arith
+abbrev now : Bor (List Float) → List Float
+now b = b.now
+
+lies : (c : After-span_of) → Inside c.span_of.result (length c.match-order.arena.now)
+lies c =
+    let s = c.args.straight.now in
+    let t = c.args.transposed.now in
+    let here = λ (l : List Float). λ (e : l ≡ named c.args.order s t). inside s t _ _ _ l _ e c.span_of.ensures in
+    elim c.match-order.branch [
+      | in-Straight w ↦ here _ (ap now w.arena-is ∙ named_straight _ s t w.in-Straight.is)
+      | in-Unnamed w ↦ here _ (ap now w.arena-is ∙ named_transposed _ s t w.in-Unnamed.is)
+    ]
+
+pub offset_bounds-arena-span_of : goal.offset_bounds-arena-span_of
+offset_bounds-arena-span_of c = let i = lies c in omega arith
 
 pub slice_bounds-result-count : goal.slice_bounds-result-count
-slice_bounds-result-count c =
-    let a = c.args in
-    let i = within a.straight.now a.transposed.now a.kind a.channel c.span_of-p.result c.span_of-p.ensures in
-    omega arith
+slice_bounds-result-count c = let i = lies c in omega arith
 
 pub slice_bounds-result-start : goal.slice_bounds-result-start
-slice_bounds-result-start c =
-    let a = c.args in
-    let i = within a.straight.now a.transposed.now a.kind a.channel c.span_of-p.result c.span_of-p.ensures in
-    omega arith
+slice_bounds-result-start c = let i = lies c in omega arith
 
 pub slice_bounds-result-end : goal.slice_bounds-result-end
-slice_bounds-result-end c =
-    let a = c.args in
-    let i = within a.straight.now a.transposed.now a.kind a.channel c.span_of-p.result c.span_of-p.ensures in
-    omega arith
+slice_bounds-result-end c = let i = lies c in omega arith
 
-pub offset_bounds-straight-at : goal.offset_bounds-straight-at
-offset_bounds-straight-at c =
-    let a = c.args in
-    let i = within a.straight.now a.transposed.now a.kind a.channel c.span_of-p.result c.span_of-p.ensures in
-    omega arith
-
-pub slice_bounds-result-count-in-Straight : goal.slice_bounds-result-count-in-Straight
-slice_bounds-result-count-in-Straight c =
-    let a = c.args in
-    let i = within a.straight.now a.transposed.now a.kind a.channel c.span_of-p.result c.span_of-p.ensures in
-    omega arith
-
-pub slice_bounds-result-start-in-Straight : goal.slice_bounds-result-start-in-Straight
-slice_bounds-result-start-in-Straight c =
-    let a = c.args in
-    let i = within a.straight.now a.transposed.now a.kind a.channel c.span_of-p.result c.span_of-p.ensures in
-    omega arith
-
-pub slice_bounds-result-end-in-Straight : goal.slice_bounds-result-end-in-Straight
-slice_bounds-result-end-in-Straight c =
-    let a = c.args in
-    let i = within a.straight.now a.transposed.now a.kind a.channel c.span_of-p.result c.span_of-p.ensures in
-    omega arith
-
-pub offset_bounds-transposed-at-in-Transposed : goal.offset_bounds-transposed-at-in-Transposed
-offset_bounds-transposed-at-in-Transposed c =
-    let a = c.args in
-    let i = within a.straight.now a.transposed.now a.kind a.channel c.span_of-p.result c.span_of-p.ensures in
-    omega arith
-
-pub slice_bounds-result-count-in-Transposed : goal.slice_bounds-result-count-in-Transposed
-slice_bounds-result-count-in-Transposed c =
-    let a = c.args in
-    let i = within a.straight.now a.transposed.now a.kind a.channel c.span_of-p.result c.span_of-p.ensures in
-    omega arith
-
-pub slice_bounds-result-start-in-Transposed : goal.slice_bounds-result-start-in-Transposed
-slice_bounds-result-start-in-Transposed c =
-    let a = c.args in
-    let i = within a.straight.now a.transposed.now a.kind a.channel c.span_of-p.result c.span_of-p.ensures in
-    omega arith
-
-pub slice_bounds-result-end-in-Transposed : goal.slice_bounds-result-end-in-Transposed
-slice_bounds-result-end-in-Transposed c =
-    let a = c.args in
-    let i = within a.straight.now a.transposed.now a.kind a.channel c.span_of-p.result c.span_of-p.ensures in
-    omega arith
-
-pub returns-in-Unnamed : goal.returns-in-Unnamed
-returns-in-Unnamed c =
-    let a = c.args in
-    shown_is a.straight.now a.transposed.now a.kind a.channel Unnamed c.span_of-p.result c.span_of-p.ensures
-    ∙ ap (λ (o : Order). shown a.straight.now a.transposed.now a.kind a.channel o) (sym c.in-Unnamed.is)
-
-pub returns-in-Straight : goal.returns-in-Straight
-returns-in-Straight c =
-    let a = c.args in
-    shown_is a.straight.now a.transposed.now a.kind a.channel Straight c.span_of-p.result c.span_of-p.ensures
-    ∙ ap (λ (o : Order). shown a.straight.now a.transposed.now a.kind a.channel o) (sym c.in-Straight.is)
-
-pub returns-in-Transposed : goal.returns-in-Transposed
-returns-in-Transposed c =
-    let a = c.args in
-    shown_is a.straight.now a.transposed.now a.kind a.channel Transposed c.span_of-p.result c.span_of-p.ensures
-    ∙ ap (λ (o : Order). shown a.straight.now a.transposed.now a.kind a.channel o) (sym c.in-Transposed.is)
+pub returns : goal.returns
+returns c =
+    let s = c.args.straight.now in
+    let t = c.args.transposed.now in
+    let here = λ (l : List Float). λ (e : l ≡ named c.args.order s t). shown_is s t _ _ _ l _ e c.span_of.ensures in
+    elim c.match-order.branch [
+      | in-Straight w ↦ here _ (ap now w.arena-is ∙ named_straight _ s t w.in-Straight.is)
+      | in-Unnamed w ↦ here _ (ap now w.arena-is ∙ named_transposed _ s t w.in-Unnamed.is)
+    ]

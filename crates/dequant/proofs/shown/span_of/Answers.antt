@@ -9,7 +9,7 @@ use Rattle.dequant.proofs.shown.span_of.Goals as goal
 use Rattle.dequant.proofs.shown.span_of.Goals.{After-arena_start}
 
 yes : (c : After-arena_start) → found c.args.kind c.args.channel c.args.s c.args.t ≡ true
-yes c = sym c.names.ensures ∙ c.if-names.true
+yes c = sym c.names.ensures ∙ c.if-not-names.false
 
 ends : (c : After-arena_start) → c.arena_start.result + c.args.channel * c.area-area.result + c.area-area.result ≤ 394752
 ends c =
@@ -25,12 +25,12 @@ overflow_add-at c = omega (arith, ends c)
 pub overflow_add-result : goal.overflow_add-result
 overflow_add-result c = omega (arith, ends c)
 
-pub returns-then-names : goal.returns-then-names
-returns-then-names c =
+pub returns-then-not-names : goal.returns-then-not-names
+returns-then-not-names c =
     let a = c.args in
-    span_yes a.kind a.channel a.s a.t c.arena_start.result c.area-area.result (yes c) c.arena_start.ensures c.area-area.ensures
+    span_no a.kind a.channel a.s a.t (sym c.names.ensures ∙ c.if-not-names.true)
 
 pub returns : goal.returns
 returns c =
     let a = c.args in
-    span_no a.kind a.channel a.s a.t (sym c.names.ensures ∙ c.if-names.false)
+    span_yes a.kind a.channel a.s a.t c.arena_start.result c.area-area.result (yes c) c.arena_start.ensures c.area-area.ensures

@@ -1,7 +1,8 @@
--- `expand::expand_kind` by its five answers. Assumes nothing.
-use Rattle.std.proofs.Common.{◌≡◌, false, List, map, sym, ap, ◌∙◌, subst, arith}
+-- `expand::expand_kind`: a row that is allowed, raw and not. Assumes nothing.
+use Rattle.std.proofs.Common.{◌≡◌, true, false, List, map, sym, ap, ◌∙◌, subst, rules}
 use lib.Ieee.{Float}
-use Rattle.params.proofs.FaultLaws.{row_done, row_other}
+use Rattle.params.specs.Allowed.{row_allowed}
+use Rattle.params.proofs.FaultLaws.{row_done}
 use Rattle.params.proofs.FineLaws.{row_fine}
 use Rattle.matrix.specs.Mirror.{mirror}
 use Rattle.matrix.specs.Numbers.{numbers_of}
@@ -13,53 +14,20 @@ use Rattle.matrix.proofs.Meaning.{meaning}
 use Rattle.matrix.proofs.Lending.{given}
 use Rattle.matrix.proofs.OddLaws.{plain_row, raw_row_lem}
 use Rattle.matrix.proofs.RowFacts.{facts, row_shaped, not_raw}
-use Rattle.matrix.proofs.Said.{says_lent, says_row, says_denom, says_kind, raw_answer, plain_answer, raw_meaning}
+use Rattle.matrix.proofs.Said.{says_kind, raw_answer, plain_answer, raw_meaning}
 use Rattle.matrix.proofs.expand.expand_kind.Goals as goal
 
-pub returns-then-not-lent_right-clause-answer : goal.returns-then-not-lent_right-clause-answer
-returns-then-not-lent_right-clause-answer c =
-    let a = c.args in
-    says_lent a.kind a.row.now a.samples.now _ _ (sym c.lent_right.ensures ∙ c.if-not-lent_right.true)
-
-pub returns-in_default-clause-answer : goal.returns-in_default-clause-answer
-returns-in_default-clause-answer c =
-    let a = c.args in
-    let e = sym c.lent_right.ensures ∙ c.if-not-lent_right.false in
-    let g = given a.kind a.row.now _ _ _ e in
-    says_row a.kind a.row.now a.samples.now _ _ e (row_other _ _ _ c.check_row.ensures (omega (arith, g.kind)) g.slots c.in_default.not-Done)
-
-pub bounds-row-0 : goal.bounds-row-0
-bounds-row-0 c = let a = c.args in let e = sym c.lent_right.ensures ∙ c.if-not-lent_right.false in let g = given a.kind a.row.now _ _ _ e in omega (arith, g.slots)
-
-pub bounds-row-3 : goal.bounds-row-3
-bounds-row-3 c = let a = c.args in let e = sym c.lent_right.ensures ∙ c.if-not-lent_right.false in let g = given a.kind a.row.now _ _ _ e in omega (arith, g.slots)
-
-pub bounds-row-3-then-row-eq7 : goal.bounds-row-3-then-row-eq7
-bounds-row-3-then-row-eq7 c = let a = c.args in let e = sym c.lent_right.ensures ∙ c.if-not-lent_right.false in let g = given a.kind a.row.now _ _ _ e in omega (arith, g.slots)
-
--- DENOM
-pub returns-then-odd_denominator-clause-answer : goal.returns-then-odd_denominator-clause-answer
-returns-then-odd_denominator-clause-answer c =
-    let a = c.args in
-    let e = sym c.lent_right.ensures ∙ c.if-not-lent_right.false in
-    let ok = row_done _ _ (sym c.check_row.ensures ∙ c.in-Done.is) in
-    let raw = c.if-row-eq7.true in
-    says_denom a.kind a.row.now a.samples.now _ _ e ok (raw_row_lem a.row.now raw ∙ sym c.odd_denominator.ensures ∙ c.if-odd_denominator.true)
-
 pub value_of-requires : goal.value_of-requires
-value_of-requires c = row_fine _ _ (row_done _ _ (sym c.check_row.ensures ∙ c.in-Done.is)) 0
-
-pub expand_raw-requires : goal.expand_raw-requires
-expand_raw-requires c =
-    let g = given _ _ _ _ _ (sym c.lent_right.ensures ∙ c.if-not-lent_right.false) in
-    (g.kind, g.samples c.if-row-eq7.true, g.first, g.second)
+value_of-requires c =
+    let ok : row_allowed c.args.kind c.args.row.now ≡ true = search (rules, row_done) in
+    row_fine _ _ ok 0
 
 pub returns-then-row-eq7 : goal.returns-then-row-eq7
 returns-then-row-eq7 c =
     let a = c.args in
     let k = a.kind in
     let e = sym c.lent_right.ensures ∙ c.if-not-lent_right.false in
-    let ok = row_done _ _ (sym c.check_row.ensures ∙ c.in-Done.is) in
+    let ok : row_allowed k a.row.now ≡ true = search (rules, row_done) in
     let raw = c.if-row-eq7.true in
     let above : odd_row a.row.now ≡ false = raw_row_lem _ raw ∙ sym c.odd_denominator.ensures ∙ c.if-odd_denominator.false in
     let r = c.expand_raw in
@@ -73,13 +41,14 @@ returns-then-row-eq7 c =
 pub numbers_of-requires : goal.numbers_of-requires
 numbers_of-requires c =
     let g = given _ _ _ _ _ (sym c.lent_right.ensures ∙ c.if-not-lent_right.false) in
-    (g.slots, g.kind, record { each = row_fine _ _ (row_done _ _ (sym c.check_row.ensures ∙ c.in-Done.is)) })
+    let ok : row_allowed c.args.kind c.args.row.now ≡ true = search (rules, row_done) in
+    (g.slots, g.kind, record { each = row_fine _ _ ok })
 
 pub expand_numbers-requires : goal.expand_numbers-requires
 expand_numbers-requires c =
     let a = c.args in
     let g = given a.kind a.row.now _ _ _ (sym c.lent_right.ensures ∙ c.if-not-lent_right.false) in
-    let ok = row_done _ _ (sym c.check_row.ensures ∙ c.in-Done.is) in
+    let ok : row_allowed a.kind a.row.now ≡ true = search (rules, row_done) in
     (subst (λ (n : Numbers). Shaped n a.kind) (sym c.numbers_of.ensures) (row_shaped a.kind a.row.now g.kind (facts a.kind a.row.now ok) c.if-row-eq7.false), g.first, g.second)
 
 pub returns : goal.returns
@@ -87,7 +56,7 @@ returns c =
     let a = c.args in
     let k = a.kind in
     let e = sym c.lent_right.ensures ∙ c.if-not-lent_right.false in
-    let ok = row_done _ _ (sym c.check_row.ensures ∙ c.in-Done.is) in
+    let ok : row_allowed k a.row.now ≡ true = search (rules, row_done) in
     let plain = c.if-row-eq7.false in
     let f = c.expand_numbers in
     let m = c.numbers_of.ensures in

@@ -1,12 +1,10 @@
 -- `numbers::default_value`. Assumes nothing.
 use lib.Ieee.{of_bits}
-use Rattle.matrix.proofs.Table.{past}
+use Rattle.matrix.proofs.Table.{table_at, past}
 use Rattle.matrix.proofs.numbers.default_value.Goals as goal
 
 pub returns-then-i-lt51 : goal.returns-then-i-lt51
-returns-then-i-lt51 c =
-    let v = c.before.before in
-    v.requires.0.each v.args.kind v.args.i v.requires.1 c.if-i-lt51.true
+returns-then-i-lt51 c = table_at c.args.kind c.args.i _ _ c.requires c.if-i-lt51.true
 
 pub returns-else-i-lt51 : goal.returns-else-i-lt51
 unfolding of_bits

@@ -1,5 +1,5 @@
 -- `outputs::turn_line` meets its contract. The invariant: the first y places of the line are those of the column. Assumes nothing.
-use Rattle.std.proofs.Common.{◌≡◌, ◌+◌, ◌-◌, ◌*◌, ◌/◌, ◌%◌, ◌≤◌, length, get_or}
+use Rattle.std.proofs.Common.{◌≡◌, ◌+◌, ◌*◌, get_or}
 use lib.Seq.{sets}
 use lib.Ieee.{nan}
 use Rattle.bands.specs.Table.{tab}
@@ -7,8 +7,4 @@ use Rattle.matrix.specs.Mirror.{turned}
 use Rattle.matrix.proofs.outputs.turn_line.Given as goal
 
 abbrev pub invariant-loop-y : goal.invariant-loop-y
-invariant-loop-y l =
-    (l.y ≤ l.h) × (l.from ≡ l.l / l.w * (l.w * l.h) + l.l % l.w) × (l.to ≡ l.l * l.h) × (length l.transposed ≡ length l.initial.transposed) × (l.transposed ≡ sets l.initial.transposed (l.l * l.h) (tab l.y (λ k. get_or l.straight (turned l.w l.h (l.l * l.h + k)) nan)))
-
-abbrev pub decreases-loop-y : goal.decreases-loop-y
-decreases-loop-y l = l.h - l.y
+invariant-loop-y l = l.transposed ≡ sets l.initial.transposed (l.l * l.h) (tab l.y (λ k. get_or l.straight (turned l.w l.h (l.l * l.h + k)) nan))

@@ -1,12 +1,9 @@
--- `raw::fill_raw` meets its contract. The invariant: the first i weights stand from `start` on. Assumes nothing.
-use Rattle.std.proofs.Common.{◌≡◌, ◌-◌, ◌≤◌, length, get_or, pos}
+-- `raw::fill_raw` meets its contract. The invariant: the first i weights stand in front. Assumes nothing.
+use Rattle.std.proofs.Common.{◌≡◌, get_or, pos}
 use lib.Seq.{sets}
 use Rattle.bands.specs.Table.{tab}
 use Rattle.matrix.specs.Raw.{weight_of}
 use Rattle.matrix.proofs.raw.fill_raw.Given as goal
 
 abbrev pub invariant-loop-i : goal.invariant-loop-i
-invariant-loop-i l = (l.i ≤ length l.samples) × (length l.straight ≡ length l.initial.straight) × (l.straight ≡ sets l.initial.straight 0 (tab l.i (λ k. weight_of l.denominator (get_or l.samples k (pos 0)))))
-
-abbrev pub decreases-loop-i : goal.decreases-loop-i
-decreases-loop-i l = length l.samples - l.i
+invariant-loop-i l = l.straight ≡ sets l.initial.straight 0 (tab l.i (λ k. weight_of l.denominator (get_or l.samples k (pos 0))))

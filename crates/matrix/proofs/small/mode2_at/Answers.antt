@@ -10,4 +10,4 @@ unfolding mode2 of_bits
 returns c =
     let a = c.args in
     c.layer_at.ensures
-    ∙ ap (layer (number_of a.n a.c) 1 0 a.y a.x) (c.layer_at-second.ensures ∙ ap (layer (number_of a.n a.c) 2 2 a.y a.x) c.layer_at-third.ensures)
+    ∙ ap (layer (number_of a.n.now a.c) 1 0 a.y a.x) (c.layer_at-second.ensures ∙ ap (layer (number_of a.n.now a.c) 2 2 a.y a.x) c.layer_at-third.ensures)

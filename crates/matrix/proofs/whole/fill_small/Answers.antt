@@ -1,28 +1,16 @@
--- `whole::fill_small`: place by place (`Laid`). Assumes nothing.
-use Rattle.std.proofs.Common.{◌/◌, ◌%◌, ◌∙◌, arith, lit<, lit≤}
+-- `whole::fill_small`: place by place. Assumes nothing.
+use Rattle.std.proofs.Common.{◌≡◌, ◌/◌, ◌%◌, ◌∙◌, arith}
 use Rattle.matrix.specs.Weight.{rule}
+use Rattle.matrix.proofs.Front.{front_all}
 use Rattle.matrix.proofs.Ruled.{small_whole}
-use Rattle.bands.proofs.Laid.{laid_none, laid_all}
 use Rattle.matrix.proofs.whole.fill_small.Goals as goal
-
-pub loop-q-init : goal.loop-q-init
-loop-q-init c = (omega arith, laid_none _ _ _ c.requires.3)
-
-pub small_at-v0-requires : goal.small_at-v0-requires
-small_at-v0-requires c = let h = c.requires in (h.0, h.1, h.2, lit< tt, c.loop-q-test.true)
-
-pub small_at-v1-requires : goal.small_at-v1-requires
-small_at-v1-requires c = let h = c.requires in (h.0, h.1, h.2, lit< tt, c.loop-q-test.true)
-
-pub small_at-v2-requires : goal.small_at-v2-requires
-small_at-v2-requires c = let h = c.requires in (h.0, h.1, h.2, lit< tt, c.loop-q-test.true)
-
-pub put-requires : goal.put-requires
-put-requires c = (c.loop-q-test.true, c.loop-q.invariant.1.long, lit≤ tt)
 
 pub returns : goal.returns
 returns c =
+    let n = c.args.n.now in
+    let l = c.loop-p in
     let r = c.requires.0 in
     let m = c.requires.1 in
-    laid_all (λ k j. rule c.args.n c.args.kind k (j / 8) (j % 8) c.args.n.mode) 64 c.loop-q.q c.loop-q.out (lit< tt) c.loop-q-test.false c.loop-q.invariant.1
-    ∙ small_whole c.args.n c.args.kind (r.shaped.wide (omega arith)) (r.shaped.high (omega arith))
+    let e : l.p ≡ 192 = omega arith in
+    front_all _ l.out l.p 192 (λ p. rule n c.args.kind (p / 64) (p % 64 / 8) (p % 64 % 8) n.mode) l.invariant c.requires.3 e
+    ∙ small_whole n c.args.kind (r.shaped.wide (omega arith)) (r.shaped.high (omega arith))

@@ -1,27 +1,23 @@
 -- `raw::any_raw` meets its contract. The loop's invariant: no kind before this one is raw. Assumes nothing.
-use mathlib.Core.Path.{refl, sym, ap, ◌∙◌}
+use mathlib.Core.Path.{sym, ap, ◌∙◌}
 use mathlib.Core.Bool.{not}
-use native.Mathlib.Omega.{arith}
 use borrow.Author.Rules.{rules}
-use Rattle.transform.specs.First.{before}
-use Rattle.transform.proofs.FirstLaws.{before_more}
+use Rattle.transform.proofs.FirstLaws.{before_none, before_more}
 use Rattle.params.proofs.RawLaws.{plain, raw_at, raw_none}
 use Rattle.params.proofs.raw.any_raw.Goals as goal
 
 pub loop-kind-init : goal.loop-kind-init
-loop-kind-init c = (search rules, unfold before in refl)
+loop-kind-init c = before_none _
 
 pub returns-then-is_raw : goal.returns-then-is_raw
 returns-then-is_raw c =
-    let a = c.args in
     let l = c.loop-kind in
-    raw_at a.rows.now l.kind l.invariant.1 (search rules) (sym c.is_raw.ensures ∙ c.if-is_raw.true)
+    raw_at c.args.rows.now l.kind l.invariant (search rules) (sym c.is_raw.ensures ∙ c.if-is_raw.true)
 
 pub loop-kind-preserved : goal.loop-kind-preserved
 loop-kind-preserved c =
-    let a = c.args in
     let l = c.loop-kind in
-    (omega arith, before_more (plain a.rows.now) l.kind l.invariant.1 (ap not (sym c.is_raw.ensures ∙ c.if-is_raw.false)))
+    before_more (plain c.args.rows.now) l.kind l.invariant (ap not (sym c.is_raw.ensures ∙ c.if-is_raw.false))
 
 pub returns : goal.returns
-returns c = raw_none c.args.rows.now c.loop-kind.kind c.loop-kind.invariant.1 (search rules) c.loop-kind.invariant.0
+returns c = raw_none c.args.rows.now c.loop-kind.kind c.loop-kind.invariant (search rules) (search rules)

@@ -1,26 +1,15 @@
--- `params::rows::all_fine` meets its contract. The loop's invariant: the numbers from i on pass the test exactly if all do. Assumes nothing.
-use mathlib.Core.Path.{sym, ap, ◌∙◌}
+-- `params::rows::all_fine` meets its contract: what `all` says of the slice is `all_fine`. Assumes nothing.
+use mathlib.Core.Path.{◌∙◌}
+use mathlib.Core.Bool.{not}
 use borrow.Author.Rules.{rules}
-use borrow.Author.Tests.{eq-eqb, ne_eqb}
-use lib.ListN.{drop_of_length-le}
-use Rattle.params.specs.Allowed.{all_fine}
-use Rattle.params.proofs.AllowedLaws.{fine_stop, fine_go}
+use borrow.Author.Tests.{tests}
+use Rattle.std.proofs.lemmas.Iterator.{YieldsList-from_slice}
+use Rattle.std.proofs.lemmas.Iterator.Search.{all_from_yields_List}
+use Rattle.bitstream.specs.Half.{barred}
+use Rattle.params.proofs.AllowedLaws.{fine_all}
 use Rattle.params.proofs.rows.all_fine.Goals as goal
-
-pub returns-then-v-eq31 : goal.returns-then-v-eq31
-returns-then-v-eq31 c =
-    let l = c.loop-i in
-    let a = c.args in
-    sym (sym l.invariant.1 ∙ fine_stop a.part.now l.i (search rules) (eq-eqb _ 31 c.if-v-eq31.true))
-
-pub loop-i-preserved : goal.loop-i-preserved
-loop-i-preserved c =
-    let l = c.loop-i in
-    let a = c.args in
-    (search rules, fine_go a.part.now l.i (search rules) (ne_eqb _ 31 c.if-v-eq31.false) ∙ l.invariant.1)
 
 pub returns : goal.returns
 returns c =
-    let l = c.loop-i in
-    let a = c.args in
-    sym (ap all_fine (drop_of_length-le a.part.now {i = l.i} (search rules))) ∙ l.invariant.1
+    let part = c.args.part.now in
+    all_from_yields_List (λ v. not (barred v)) _ _ _ c.all.ensures.ran (YieldsList-from_slice part cc) (λ x b q k. search (rules, tests)) ∙ fine_all part

@@ -11,4 +11,4 @@ pub overflow_add-result : goal.overflow_add-result
 overflow_add-result t c = let n = c.args.n in record { fits = omega (arith, c.put_digits-p.ensures.place, digits_length (n / 10) (n / 10) (omega arith)) }
 
 pub returns : goal.returns
-returns t c = let o = digits_more _ _ _ _ _ _ c.if-n-eq0.false c.put_digits-p.ensures.place c.put_digits-p.ensures.bytes c.put_u8.ensures in record { place = o.0; bytes = o.1 }
+returns t c = let o = digits_more _ _ _ _ _ _ c.if-n-eq0.false c.put_digits-p.ensures.place c.put_digits-p.ensures.bytes c.store.ensures in record { place = o.0; bytes = o.1 }

@@ -8,4 +8,4 @@ pub overflow_add-result : goal.overflow_add-result
 overflow_add-result c = let a = c.args in record { fits = omega (arith, c.put_digits-p.ensures.place, digits_length a.n a.n (omega arith)) }
 
 pub returns : goal.returns
-returns c = let a = c.args in let o = count_text a.out.now _ _ a.at a.n a.end _ c.put_digits-p.ensures.place c.put_digits-p.ensures.bytes c.put_u8.ensures in record { place = o.0; bytes = o.1 }
+returns c = let a = c.args in let o = count_text a.out.now _ _ a.at a.n a.end _ c.put_digits-p.ensures.place c.put_digits-p.ensures.bytes c.store.ensures in record { place = o.0; bytes = o.1 }

@@ -1,21 +1,25 @@
 -- `record::reader::kinds_at` meets its contract. Assumes nothing.
-use mathlib.Core.Path.{refl}
+use mathlib.Core.Path.{◌∙◌}
+use Rattle.record.proofs.ItemPlaces.{handed}
 use Rattle.record.proofs.KindPlaces.{walked_start}
 use Rattle.record.proofs.WalkPlaces.{store, kinds_bad, kinds_on, kinds_done}
 use borrow.Author.Rules.{rules}
 use Rattle.record.proofs.reader.kinds_at.Goals as goal
 
 pub loop-kind-init : goal.loop-kind-init
-loop-kind-init c = let a = c.args in (search rules, search rules, refl, refl, walked_start store a.s.now a.at 17 (a.rows.now, a.arena.now) (search rules))
+loop-kind-init c = let a = c.args in (search rules, walked_start store a.s.now a.at 17 (a.rows.now, a.arena.now) (search rules))
 
 pub row_at-requires : goal.row_at-requires
-row_at-requires c = (c.loop-kind.invariant.4.within, search rules)
+row_at-requires c = (c.loop-kind.invariant.1.within, search rules)
 
 pub loop-kind-preserved : goal.loop-kind-preserved
-loop-kind-preserved c = let a = c.args in (search rules, search rules, search rules, search rules, kinds_on a.s.now a.at a.rows.now a.arena.now _ _ _ _ c.loop-kind.invariant.4 _ c.in-Got.q c.loop-kind-test.true c.row_at.ensures.scanned c.in-Got.is _ _ c.row_at.ensures.stored)
+loop-kind-preserved c = let a = c.args in (search rules, kinds_on a.s.now a.at a.rows.now a.arena.now _ _ _ _ c.loop-kind.invariant.1 c.in_ok-p.p c.loop-kind-test.true c.in_ok-p.ensures.scanned _ _ c.in_ok-p.ensures.stored)
 
-pub returns-in-Bad : goal.returns-in-Bad
-returns-in-Bad c = let a = c.args in let o = kinds_bad a.s.now a.at a.rows.now a.arena.now _ _ _ _ c.loop-kind.invariant.4 _ c.in-Bad.q c.loop-kind-test.true c.row_at.ensures.scanned c.in-Bad.is c.row_at.new.rows c.row_at.new.arena in record { scanned = o.0; stored = o.1 }
+pub returns-in_err-p : goal.returns-in_err-p
+returns-in_err-p c =
+    let a = c.args in
+    let o = kinds_bad a.s.now a.at a.rows.now a.arena.now _ _ _ _ c.loop-kind.invariant.1 _ c.loop-kind-test.true c.in_err-p.ensures.scanned c.row_at.new.rows c.row_at.new.arena in
+    record { scanned = handed _ _ c.from_residual.ensures.1 ∙ o.0; stored = o.1 }
 
 pub returns : goal.returns
-returns c = let a = c.args in let o = kinds_done a.s.now a.at a.rows.now a.arena.now _ _ _ _ c.loop-kind.invariant.4 c.loop-kind-test.false c.requires in record { scanned = o.0; stored = o.1 }
+returns c = let a = c.args in let o = kinds_done a.s.now a.at a.rows.now a.arena.now _ _ _ _ c.loop-kind.invariant.1 c.loop-kind-test.false c.requires in record { scanned = o.0; stored = o.1 }

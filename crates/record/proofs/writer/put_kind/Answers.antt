@@ -1,6 +1,6 @@
 -- `record::writer::put_kind` meets its contract. Assumes nothing.
 use Prim.Native.Nat.{◌+◌, ◌≤◌}
-use mathlib.Core.Path.{◌≡◌, refl}
+use mathlib.Core.Path.{◌≡◌}
 use Rattle.record.proofs.SetStores.{kind_long, kind_mode, kind_few, kind_room, kind_part, kind_put}
 use native.Mathlib.Omega.{arith}
 use lib.ListN.{length}
@@ -10,32 +10,23 @@ use Rattle.record.proofs.writer.put_kind.Goals as goal
 pub bounds-rows-from : goal.bounds-rows-from
 bounds-rows-from c = let a = c.args in let l : length a.rows.now ≡ 2176 = kind_long a.rows.now a.samples.now c.requires.1.1.0 in search rules
 
-pub overflow_cast-mode : goal.overflow_cast-mode
-overflow_cast-mode c = let a = c.args in record { fits = omega (arith, kind_mode a.rows.now a.samples.now c.requires.1.1.0 c.requires.1.1.1 a.kind c.requires.1.0) }
-
 pub put_mode-p-requires : goal.put_mode-p-requires
-put_mode-p-requires c = let a = c.args in (search rules, (search rules, kind_mode a.rows.now a.samples.now c.requires.1.1.0 c.requires.1.1.1 a.kind c.requires.1.0))
-
-pub overflow_cast-mode-2 : goal.overflow_cast-mode-2
-overflow_cast-mode-2 c = let a = c.args in record { fits = omega (arith, kind_mode a.rows.now a.samples.now c.requires.1.1.0 c.requires.1.1.1 a.kind c.requires.1.0) }
-
-pub overflow_cast-mode-3 : goal.overflow_cast-mode-3
-overflow_cast-mode-3 c = let a = c.args in record { fits = omega (arith, kind_mode a.rows.now a.samples.now c.requires.1.1.0 c.requires.1.1.1 a.kind c.requires.1.0) }
+put_mode-p-requires c = let a = c.args in (search rules, (search rules, omega (arith, c.from-mode.ensures, kind_mode a.rows.now a.samples.now c.requires.1.1.0 c.requires.1.1.1 a.kind c.requires.1.0)))
 
 pub overflow_add-stop : goal.overflow_add-stop
-overflow_add-stop c = let a = c.args in record { fits = omega (arith, kind_few a.rows.now a.samples.now c.requires.1.1.0 c.requires.1.1.1 a.kind c.requires.1.0 _ refl _ _ c.part_start-start.ensures c.sample_count.ensures) }
+overflow_add-stop c = let a = c.args in record { fits = omega (arith, kind_few a.rows.now a.samples.now c.requires.1.1.0 c.requires.1.1.1 a.kind c.requires.1.0 _ c.from-mode.ensures _ _ c.part_start-start.ensures c.sample_count.ensures) }
 
 pub slice_bounds-put_parts-end : goal.slice_bounds-put_parts-end
 slice_bounds-put_parts-end c = let a = c.args in let l : length a.rows.now ≡ 2176 = kind_long a.rows.now a.samples.now c.requires.1.1.0 in search rules
 
 pub offset_bounds-samples-start : goal.offset_bounds-samples-start
-offset_bounds-samples-start c = let a = c.args in record { fits = omega (arith, kind_few a.rows.now a.samples.now c.requires.1.1.0 c.requires.1.1.1 a.kind c.requires.1.0 _ refl _ _ c.part_start-start.ensures c.sample_count.ensures) }
+offset_bounds-samples-start c = let a = c.args in record { fits = omega (arith, kind_few a.rows.now a.samples.now c.requires.1.1.0 c.requires.1.1.1 a.kind c.requires.1.0 _ c.from-mode.ensures _ _ c.part_start-start.ensures c.sample_count.ensures) }
 
 pub slice_bounds-put_parts-end-2 : goal.slice_bounds-put_parts-end-2
-slice_bounds-put_parts-end-2 c = let a = c.args in let m : c.part_start-start.result + c.sample_count.result ≤ length a.samples.now = kind_room a.rows.now a.samples.now c.requires.1.1.0 c.requires.1.1.1 a.kind c.requires.1.0 _ refl _ _ c.part_start-start.ensures c.sample_count.ensures in search rules
+slice_bounds-put_parts-end-2 c = let a = c.args in let m : c.part_start-start.result + c.sample_count.result ≤ length a.samples.now = kind_room a.rows.now a.samples.now c.requires.1.1.0 c.requires.1.1.1 a.kind c.requires.1.0 _ c.from-mode.ensures _ _ c.part_start-start.ensures c.sample_count.ensures in search rules
 
 pub put_parts-requires : goal.put_parts-requires
-put_parts-requires c = let a = c.args in (omega (arith, c.put_mode-p.ensures.short), kind_part a.rows.now a.samples.now c.requires.1.1.0 c.requires.1.1.1 a.kind c.requires.1.0 _ refl _ _ c.part_start-start.ensures c.sample_count.ensures)
+put_parts-requires c = let a = c.args in (omega (arith, c.put_mode-p.ensures.short), kind_part a.rows.now a.samples.now c.requires.1.1.0 c.requires.1.1.1 a.kind c.requires.1.0 _ c.from-mode.ensures _ _ c.part_start-start.ensures c.sample_count.ensures)
 
 pub returns : goal.returns
-returns c = let a = c.args in kind_put a.rows.now a.samples.now c.requires.1.1.0 c.requires.1.1.1 a.kind c.requires.1.0 _ refl _ _ c.part_start-start.ensures c.sample_count.ensures a.out.now _ _ a.at _ _ c.put_mode-p.ensures c.put_parts.ensures
+returns c = let a = c.args in kind_put a.rows.now a.samples.now c.requires.1.1.0 c.requires.1.1.1 a.kind c.requires.1.0 _ c.from-mode.ensures _ _ c.part_start-start.ensures c.sample_count.ensures a.out.now _ _ a.at _ _ c.put_mode-p.ensures c.put_parts.ensures

@@ -1,19 +1,20 @@
 -- `record::writer::put_line` meets its contract. Assumes nothing.
-use Rattle.record.specs.Answers.{slot, slot_name}
-use Rattle.record.proofs.LineStores.{name_short, line_empty, line_named}
-use mathlib.Core.Path.{ap}
+use mathlib.Core.Path.{◌≡◌, ap, sym, ◌∙◌}
+use mathlib.Core.List.{List}
+use Prim.Native.Nat.{ℕ, ◌+◌}
 use native.Mathlib.Omega.{arith}
+use borrow.Author.Tests.{eqb-true, eqb-false}
 use lib.ListN.{length}
+use lib.Seq.{sets}
+use Rattle.record.proofs.LineStores.{line_empty, line_full}
 use Rattle.record.proofs.writer.put_line.Goals as goal
 
-pub returns-then-src-eq0 : goal.returns-then-src-eq0
-returns-then-src-eq0 c = let a = c.args in line_empty (slot_name a.hex) 0 (slot a.hex) a.src.now a.out.now a.at c.if-src-eq0.true
-
-pub put_bytes-p-requires : goal.put_bytes-p-requires
-put_bytes-p-requires c = let a = c.args in let e = c.requires in omega (arith, ap length e.1, name_short a.hex, e.0)
-
-pub put_slots-requires : goal.put_slots-requires
-put_slots-requires c = let a = c.args in let e = c.requires in omega (arith, c.put_bytes-p.ensures.place, ap length e.1, name_short a.hex, e.0)
+pub returns-then-is_empty : goal.returns-then-is_empty
+returns-then-is_empty g c = let a = c.args in line_empty g.S.Series.named g.S.Series.any g.S.Series.format a.src.now a.out.now a.at (eqb-true (length a.src.now) 0 (sym c.is_empty.ensures ∙ c.if-is_empty.true))
 
 pub returns : goal.returns
-returns c = let a = c.args in let e = c.requires in line_named a.hex a.name.now e.1 a.src.now a.out.now a.at c.if-src-eq0.false _ _ _ _ c.put_bytes-p.ensures.place c.put_bytes-p.ensures.bytes c.put_slots.ensures
+returns g c =
+    let a = c.args in
+    let n : c.name.result.now ≡ g.S.Series.named = c.name.ensures.text in
+    line_full g.S.Series.named g.S.Series.any g.S.Series.format a.src.now a.out.now a.at (omega (arith, ap length n, c.name.ensures.short)) (eqb-false (length a.src.now) 0 (sym c.is_empty.ensures ∙ c.if-is_empty.false)) _ _ _ _
+    (c.store_all-p.ensures.place ∙ ap (λ (w : List ℕ). a.at + length w) n) (c.store_all-p.ensures.items ∙ ap (sets a.out.now a.at) n) c.put_items.ensures

@@ -1,31 +1,18 @@
--- `short_arena::held::places_in` meets its contract. Assumes nothing.
-use native.Mathlib.Omega.{arith}
-use native.Mathlib.Nat.{zero-add}
-use lib.ListN.{get_or}
+-- `short_arena::held::places_in` meets its contract: 17 times the places of the largest kind fit. Assumes nothing.
+use Rattle.std.proofs.Common.{◌^◌, ◌∙◌, arith, rules}
+use Rattle.std.proofs.lemmas.Iterator.{YieldsList-from_slice, YieldsList-from_map}
+use Rattle.std.proofs.lemmas.Iterator.Adapters.{fits_from_length, at_most_from_yields_List}
+use Rattle.std.proofs.lemmas.Iterator.Consumers.{sum_by_from_yields_List}
 use Rattle.transform.specs.Kinds.{places_of}
 use Rattle.transform.proofs.Laws.{places_le}
-use Rattle.short_arena.proofs.Turns.{sum_next, sum_none}
+use Rattle.short_arena.proofs.Turns.{sum_over_is}
 use Rattle.short_arena.proofs.held.places_in.Goals as goal
 
-pub loop-i-init : goal.loop-i-init
-loop-i-init c = (omega arith, omega arith, zero-add _)
-
-pub overflow_add-sum : goal.overflow_add-sum
-overflow_add-sum c =
-    let h = places_le (get_or c.args.held.now c.loop-i.i 0) in
-    let e = c.arena_length-sum.ensures in
-    omega arith
-
-pub loop-i-preserved : goal.loop-i-preserved
-loop-i-preserved c =
-    let a = c.args in
-    let h = places_le (get_or a.held.now c.loop-i.i 0) in
-    let e = c.arena_length-sum.ensures in
-    let g = sum_next a.held.now c.loop-i.i c.loop-i-test.true places_of in
-    omega arith
+pub sum-requires-clause-fits : goal.sum-requires-clause-fits
+sum-requires-clause-fits c = fits_from_length _ _ 17 (2 ^ 64) (at_most_from_yields_List (YieldsList-from_slice c.args.held.now cc) c.requires) c.map.ensures.closure (omega arith) (λ x r q k. grind (arith, places_le))
 
 pub returns : goal.returns
 returns c =
-    let a = c.args in
-    let e = sum_none a.held.now c.loop-i.i c.loop-i-test.false places_of in
-    omega arith
+    let l = c.args.held.now in
+    sum_by_from_yields_List places_of l c.map.result _ c.sum.ensures.ran (YieldsList-from_map _ places_of (YieldsList-from_slice l cc) c.map.ensures.closure (λ x r q k. search rules))
+    ∙ sum_over_is places_of l
