@@ -1,6 +1,6 @@
 // What is written of each call.
-use dequant::Jpeg;
-use matrix::Expanded;
+use dequant::{Jpeg, JpegError};
+use matrix::{ExpandError, Expanded};
 use std::io;
 use std::io::Write;
 
@@ -24,20 +24,24 @@ fn three<W: Write>(
 // The reply of an expansion: its number, and its values.
 fn reply<W: Write>(out: &mut W, r: Expanded) -> io::Result<()> {
     match r {
-        Expanded::Done => show::decimal(out, 0),
-        Expanded::Lent => show::decimal(out, 1),
-        Expanded::Row { kind } => one(out, 6, kind),
-        Expanded::Band {
-            kind,
-            channel,
-            band,
-        } => three(out, 7, kind, channel, band),
-        Expanded::Weight {
-            kind,
-            channel,
-            place,
-        } => three(out, 8, kind, channel, place),
-        Expanded::Denom { kind } => one(out, 12, kind),
+        Ok(()) => show::decimal(out, 0),
+        Err(ExpandError::Lent) => show::decimal(out, 1),
+        Err(ExpandError::Row { kind }) => one(out, 6, kind),
+        Err(
+            ExpandError::Band {
+                kind,
+                channel,
+                band,
+            },
+        ) => three(out, 7, kind, channel, band),
+        Err(
+            ExpandError::Weight {
+                kind,
+                channel,
+                place,
+            },
+        ) => three(out, 8, kind, channel, place),
+        Err(ExpandError::Denom { kind }) => one(out, 12, kind),
     }
 }
 
@@ -105,10 +109,10 @@ fn show_values<W: Write>(out: &mut W, part: &[i32]) -> io::Result<()> {
 
 fn jpeg_number(r: Jpeg) -> u64 {
     match r {
-        Jpeg::Done => 0,
-        Jpeg::Lent => 1,
-        Jpeg::Row { kind: _ } => 6,
-        Jpeg::None => 11,
+        Ok(()) => 0,
+        Err(JpegError::Lent) => 1,
+        Err(JpegError::Row { .. }) => 6,
+        Err(JpegError::None) => 11,
     }
 }
 
