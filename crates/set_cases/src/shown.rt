@@ -21,27 +21,30 @@ fn three<W: Write>(
     show::next(out, last as u64)
 }
 
+// The number of what refuses an expansion, and its values.
+fn refused<W: Write>(out: &mut W, why: ExpandError) -> io::Result<()> {
+    match why {
+        ExpandError::Lent => show::decimal(out, 1),
+        ExpandError::Row { kind } => one(out, 6, kind),
+        ExpandError::Band {
+            kind,
+            channel,
+            band,
+        } => three(out, 7, kind, channel, band),
+        ExpandError::Weight {
+            kind,
+            channel,
+            place,
+        } => three(out, 8, kind, channel, place),
+        ExpandError::Denom { kind } => one(out, 12, kind),
+    }
+}
+
 // The reply of an expansion: its number, and its values.
 fn reply<W: Write>(out: &mut W, r: Expanded) -> io::Result<()> {
     match r {
         Ok(()) => show::decimal(out, 0),
-        Err(ExpandError::Lent) => show::decimal(out, 1),
-        Err(ExpandError::Row { kind }) => one(out, 6, kind),
-        Err(
-            ExpandError::Band {
-                kind,
-                channel,
-                band,
-            },
-        ) => three(out, 7, kind, channel, band),
-        Err(
-            ExpandError::Weight {
-                kind,
-                channel,
-                place,
-            },
-        ) => three(out, 8, kind, channel, place),
-        Err(ExpandError::Denom { kind }) => one(out, 12, kind),
+        Err(why) => refused(out, why),
     }
 }
 
