@@ -49,14 +49,7 @@ pub(crate) fn show_reply<W: Write>(out: &mut W, r: Expanded) -> io::Result<()> {
 
 // Whether each weight has these bits.
 fn all_of(part: &[f32], bits: u32) -> bool {
-    let mut i = 0;
-    while i < part.len() {
-        if total::bits(part[i]) != bits {
-            return false;
-        }
-        i += 1;
-    }
-    true
+    part.iter().all(|x| total::bits(*x) == bits)
 }
 
 // An arena: unchanged, zero, or its weights.
@@ -104,10 +97,8 @@ pub(crate) fn show_part<W: Write>(out: &mut W, part: &[f32]) -> io::Result<()> {
 
 // Values as weights: whole numbers that an f32 has.
 fn show_values<W: Write>(out: &mut W, part: &[i32]) -> io::Result<()> {
-    let mut i = 0;
-    while i < part.len() {
-        show_weights::item(out, i, std::num::nearest_i32_to_f32(part[i]))?;
-        i += 1;
+    for (i, x) in part.iter().enumerate() {
+        show_weights::item(out, i, std::num::nearest_i32_to_f32(*x))?;
     }
     Ok(())
 }
