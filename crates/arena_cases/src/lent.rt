@@ -1,26 +1,25 @@
 // What a case lends: an arena or weights, by a rule.
+use show::Case;
 
 // The number with these bits; one NaN for all of theirs.
 fn float(bits: u32) -> f32 {
     if bits % 2147483648 > 2139095040 {
-        return 0.0 / 0.0;
+        return f32::NAN;
     }
     f32::from_bits(bits)
 }
 
 fn put(part: &mut [f32], place: usize, bits: u32) {
-    if place < part.len() {
-        part[place] = float(bits);
+    if let Some(x) = part.get_mut(place) {
+        *x = float(bits);
     }
 }
 
 // The weights that the list has, each after its place; two words for one.
 fn put_apart(part: &mut [f32], list: &[u8]) {
-    let n = list.len() / 4;
-    let mut j = 0;
-    while j < n {
-        put(part, show::word(list, j) as usize, show::word(list, j + 1));
-        j += 2;
+    let words = list.len() / 4;
+    for pair in list[..4 * words].chunks(8) {
+        put(part, show::word(pair, 0) as usize, show::word(pair, 1));
     }
 }
 
@@ -35,25 +34,22 @@ fn stepped(sum: u32, p: usize, step: u32, jump: u32) -> u32 {
 
 // The bits at place p are base + p x step + (p / 128) x jump, by 2^32, less those that the mask takes out.
 pub(crate) fn fill_by(part: &mut [f32], base: u32, step: u32, jump: u32, mask: u32) {
-    let mut p = 0;
     let mut sum = base;
-    while p < part.len() {
-        part[p] = float(sum & mask);
+    for (p, x) in part.iter_mut().enumerate() {
+        *x = float(sum & mask);
         sum = stepped(sum, p, step, jump);
-        p += 1;
     }
 }
 
 // By the rule that begins at word j of a case, but for the weights that its word k names.
-pub(crate) fn fill(part: &mut [f32], s: &[u8], at: usize, j: u32, k: u32) {
-    let own = show::rest(s, at);
+pub(crate) fn fill(part: &mut [f32], case: Case, j: u32, k: u32) {
     let i = j as usize;
     fill_by(
         part,
-        show::word(own, i),
-        show::word(own, i + 1),
-        show::word(own, i + 2),
-        show::word(own, i + 3),
+        case.word(i),
+        case.word(i + 1),
+        case.word(i + 2),
+        case.word(i + 3),
     );
-    put_apart(part, show::listed(s, at, k));
+    put_apart(part, case.listed(k));
 }

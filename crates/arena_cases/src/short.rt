@@ -2,9 +2,9 @@
 use crate::calls::number;
 use crate::lent::fill_by;
 use crate::shown::show_total;
-use short_arena::{Answer, State};
-use std::io;
+use short_arena::{Part, ShortError, State};
 use std::io::Write;
+use std::{array, io};
 
 // The words of a call, by their numbers: which it is, the kind in two words, how many weights are lent, and their rule.
 const WHICH: usize = 0;
@@ -23,22 +23,30 @@ const ADD: u32 = 0;
 
 const LOOKUP: u32 = 1;
 
-fn answer<W: Write>(out: &mut W, a: Answer) -> io::Result<()> {
+// A refusal's number.
+fn number_of(refused: ShortError) -> u64 {
+    match refused {
+        ShortError::Lent => 1,
+        ShortError::Held => 17,
+        ShortError::Full => 13,
+        ShortError::Gone => 18,
+    }
+}
+
+// An answer: DONE, with a part or without, or a refusal.
+fn answer<W: Write>(out: &mut W, a: Result<Option<Part>, ShortError>) -> io::Result<()> {
     match a {
-        Answer::Done => show::decimal(out, 0),
-        Answer::Part { first, length } => {
+        Ok(Some(Part { first, length })) => {
             show::decimal(out, 0)?;
             show::next(out, first as u64)?;
             show::next(out, length as u64)
         }
-        Answer::Lent => show::decimal(out, 1),
-        Answer::Held => show::decimal(out, 17),
-        Answer::Full => show::decimal(out, 13),
-        Answer::Gone => show::decimal(out, 18),
+        Ok(None) => show::decimal(out, 0),
+        Err(refused) => show::decimal(out, number_of(refused)),
     }
 }
 
-fn show_answer<W: Write>(out: &mut W, a: Answer) -> io::Result<()> {
+fn show_answer<W: Write>(out: &mut W, a: Result<Option<Part>, ShortError>) -> io::Result<()> {
     show::text(out, b"reply=")?;
     answer(out, a)?;
     show::end(out)
@@ -46,27 +54,18 @@ fn show_answer<W: Write>(out: &mut W, a: Answer) -> io::Result<()> {
 
 // The state in a list of 18 words.
 fn state_of(list: &[u8]) -> State {
-    let mut kinds = [0usize; 17];
-    let mut i = 0;
-    while i < 17 {
-        kinds[i] = show::word(list, i + 1) as usize;
-        i += 1;
-    }
     State {
         count: show::word(list, 0) as usize,
-        kinds,
+        kinds: array::from_fn(|i| show::word(list, i + 1) as usize),
     }
 }
 
-fn show_state<W: Write>(out: &mut W, state: State) -> io::Result<()> {
+fn show_state<W: Write>(out: &mut W, state: &State) -> io::Result<()> {
     show::text(out, b"state=")?;
     show::decimal(out, state.count as u64)?;
-    let kinds = state.kinds;
-    let mut i = 0;
-    while i < 17 {
+    for k in &state.kinds {
         show::comma(out)?;
-        show::decimal(out, kinds[i] as u64)?;
-        i += 1;
+        show::decimal(out, *k as u64)?;
     }
     show::end(out)
 }
@@ -75,9 +74,9 @@ fn add<W: Write>(
     out: &mut W,
     own: &[u8],
     arena: &mut [f32],
-    state: State,
+    state: &mut State,
     weights: &mut [f32],
-) -> io::Result<State> {
+) -> io::Result<()> {
     fill_by(
         weights,
         show::word(own, RULE),
@@ -87,70 +86,46 @@ fn add<W: Write>(
     );
     let m = show::word(own, LENGTH) as usize;
     if weights.len() < m {
-        return Ok(state);
+        return Ok(());
     }
     let added = short_arena::add(arena, state, number(own, 0, KIND) as usize, &weights[0..m]);
-    let found = added.answer;
-    show_answer(out, found)?;
-    Ok(added.state)
+    show_answer(out, added.map(Some))
 }
 
-fn lookup<W: Write>(out: &mut W, own: &[u8], arena: &[f32], state: State) -> io::Result<()> {
+fn lookup<W: Write>(out: &mut W, own: &[u8], arena: &[f32], state: &State) -> io::Result<()> {
     let kind = number(own, 0, KIND) as usize;
-    show_answer(out, short_arena::lookup_reply(arena, state, kind))?;
-    show_total(out, short_arena::lookup(arena, state, kind))
+    show_answer(
+        out,
+        short_arena::lookup_reply(arena, *state, kind).map(Some),
+    )?;
+    show_total(out, short_arena::lookup(arena, *state, kind))
 }
 
 fn drop_kind<W: Write>(
     out: &mut W,
     own: &[u8],
     arena: &mut [f32],
-    state: State,
-) -> io::Result<State> {
+    state: &mut State,
+) -> io::Result<()> {
     let dropped = short_arena::drop_kind(arena, state, number(own, 0, KIND) as usize);
-    let found = dropped.answer;
-    show_answer(out, found)?;
-    Ok(dropped.state)
+    show_answer(out, dropped.map(|()| None))
 }
 
 fn call<W: Write>(
     out: &mut W,
     own: &[u8],
     arena: &mut [f32],
-    state: State,
+    state: &mut State,
     weights: &mut [f32],
-) -> io::Result<State> {
-    let which = show::word(own, WHICH);
-    if which == ADD {
-        return add(out, own, arena, state, weights);
+) -> io::Result<()> {
+    match show::word(own, WHICH) {
+        ADD => add(out, own, arena, state, weights),
+        LOOKUP => lookup(out, own, arena, state),
+        _ => drop_kind(out, own, arena, state),
     }
-    if which == LOOKUP {
-        lookup(out, own, arena, state)?;
-        return Ok(state);
-    }
-    drop_kind(out, own, arena, state)
 }
 
-// The calls of a list, and the state after them.
-fn calls<W: Write>(
-    out: &mut W,
-    list: &[u8],
-    arena: &mut [f32],
-    state: State,
-    weights: &mut [f32],
-) -> io::Result<State> {
-    let n = list.len() / CALL;
-    let mut last = state;
-    let mut i = 0;
-    while i < n {
-        let own = show::rest(list, i * CALL);
-        last = call(out, own, arena, last, weights)?;
-        i += 1;
-    }
-    Ok(last)
-}
-
-// The calls of a list from the state in another on, with room for the weights of one call.
+// The calls of a list from the state in another on, and the state after them, with room for the weights of one call.
 pub(crate) fn run<W: Write>(
     out: &mut W,
     list: &[u8],
@@ -158,6 +133,9 @@ pub(crate) fn run<W: Write>(
     arena: &mut [f32],
     weights: &mut [f32],
 ) -> io::Result<()> {
-    let after = calls(out, list, arena, state_of(state), weights)?;
-    show_state(out, after)
+    let mut last = state_of(state);
+    for own in list.chunks_exact(CALL) {
+        call(out, own, arena, &mut last, weights)?;
+    }
+    show_state(out, &last)
 }

@@ -1,15 +1,15 @@
 // What is written of each call.
 use std::io;
 use std::io::Write;
-use total::Total;
+use total::{Lent, Total};
 
 fn reply<W: Write>(out: &mut W, r: Total) -> io::Result<()> {
     match r {
-        Total::Done { total } => {
+        Ok(total) => {
             show::decimal(out, 0)?;
             show::next(out, total)
         }
-        Total::Lent => show::decimal(out, 1),
+        Err(Lent) => show::decimal(out, 1),
     }
 }
 
@@ -29,14 +29,10 @@ pub(crate) fn show_total<W: Write>(out: &mut W, part: &[f32]) -> io::Result<()> 
 
 // Whether two parts have the same bits.
 fn same(a: &[f32], b: &[f32]) -> bool {
-    let mut i = 0;
-    while i < a.len() && i < b.len() {
-        if total::bits(a[i]) != total::bits(b[i]) {
-            return false;
-        }
-        i += 1;
-    }
     a.len() == b.len()
+        && a.iter()
+            .zip(b)
+            .all(|(x, y)| total::bits(*x) == total::bits(*y))
 }
 
 // An arena: unchanged, or its total and the weights at the places of a list.

@@ -1,43 +1,11 @@
 -- `set::expand_at` meets its contract: what the kind is handed is its row, its samples and its parts of both arenas. Assumes nothing.
 use mathlib.Core.Path.{ap, ◌∙◌}
 use mathlib.Core.List.{List}
-use native.Mathlib.Omega.{arith}
 use lib.Ieee.{Float}
 use Rattle.transform.specs.Kinds.{laid}
-use Rattle.transform.proofs.Laws.{end_le}
 use Rattle.transform.proofs.PartLaws.{cut}
-use Rattle.dequant.proofs.Kindwise.{cut_row, answered, left_straight, left_transposed, put_laid, fits_in}
+use Rattle.dequant.proofs.Kindwise.{cut_row, answered, left_straight, left_transposed, put_laid}
 use Rattle.dequant.proofs.set.expand_at.Goals as goal
-
-pub overflow_add-end : goal.overflow_add-end
-overflow_add-end c =
-    let e = end_le c.args.kind in
-    omega (arith, c.arena_start-at.ensures, c.arena_length.ensures)
-
-pub samples_of-requires : goal.samples_of-requires
-samples_of-requires c =
-    let a = c.args in
-    (omega arith, λ h. fits_in a.rows.now a.samples.now _ _ c.requires.1 a.kind c.arena_start-at.result c.arena_length.result c.arena_start-at.ensures c.arena_length.ensures h)
-
-pub offset_bounds-straight-at : goal.offset_bounds-straight-at
-offset_bounds-straight-at c =
-    let e = end_le c.args.kind in
-    omega (arith, c.arena_start-at.ensures, c.arena_length.ensures, c.requires.1.first, c.requires.1.second)
-
-pub slice_bounds-expand_kind-end-2 : goal.slice_bounds-expand_kind-end-2
-slice_bounds-expand_kind-end-2 c =
-    let e = end_le c.args.kind in
-    omega (arith, c.arena_start-at.ensures, c.arena_length.ensures, c.requires.1.first, c.requires.1.second)
-
-pub offset_bounds-transposed-at : goal.offset_bounds-transposed-at
-offset_bounds-transposed-at c =
-    let e = end_le c.args.kind in
-    omega (arith, c.arena_start-at.ensures, c.arena_length.ensures, c.requires.1.first, c.requires.1.second)
-
-pub slice_bounds-expand_kind-end-3 : goal.slice_bounds-expand_kind-end-3
-slice_bounds-expand_kind-end-3 c =
-    let e = end_le c.args.kind in
-    omega (arith, c.arena_start-at.ensures, c.arena_length.ensures, c.requires.1.first, c.requires.1.second)
 
 pub returns-clause-answer : goal.returns-clause-answer
 returns-clause-answer c =

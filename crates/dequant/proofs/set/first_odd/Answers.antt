@@ -2,7 +2,7 @@
 use mathlib.Core.Path.{sym, ap, ◌∙◌}
 use mathlib.Core.Bool.{not}
 use native.Mathlib.Omega.{arith}
-use Rattle.transform.proofs.FirstLaws.{before_none, before_more, before_stop, before_all}
+use Rattle.transform.proofs.FirstLaws.{before_none, before_more, first_at, first_none}
 use Rattle.matrix.specs.Raw.{odd_row}
 use Rattle.dequant.specs.Set.{denom_fault}
 use Rattle.dequant.proofs.Lent.{not_odd}
@@ -18,7 +18,7 @@ returns-then-is_odd c =
     let rows = c.args.rows.now in
     let l = c.loop-k in
     let odd = sym (c.is_odd.ensures ∙ ap odd_row (cut_row l.k rows)) ∙ c.if-is_odd.true in
-    (sym (before_stop (not_odd rows) l.k 17 l.invariant (ap not odd) c.loop-k-test.true), c.loop-k-test.true)
+    first_at (not_odd rows) l.k 17 l.invariant (ap not odd) c.loop-k-test.true
 
 pub loop-k-preserved : goal.loop-k-preserved
 loop-k-preserved c =
@@ -31,4 +31,4 @@ pub returns : goal.returns
 unfolding denom_fault
 returns c =
     let l = c.loop-k in
-    omega (arith, before_all (not_odd c.args.rows.now) l.k 17 l.invariant (omega arith) (omega arith))
+    first_none (not_odd c.args.rows.now) l.k 17 l.invariant (omega arith) (omega arith)
