@@ -1,7 +1,5 @@
 -- `three::chains`: every ratio has its chain, or waits for it among those from p on (`Holding`). Assumes nothing.
-use Rattle.std.proofs.Common.{ℕ, ◌+◌, ◌≤◌, replicate, arith}
-use lib.ListN.{length-replicate, get_or-replicate}
-use Rattle.bands.specs.ChainTable.{Blank}
+use Rattle.std.proofs.Common.{◌+◌, ◌≤◌, arith}
 use Rattle.bands.proofs.Tables.{holding_none, holding_more, holding_all, holding_inside, eight_near, eight_alike, eight_rooms}
 use Rattle.bands.proofs.three.chains.Goals as goal
 use Rattle.bands.proofs.three.chains.Goals.{In-loop-p}
