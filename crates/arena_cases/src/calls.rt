@@ -1,8 +1,8 @@
-// The calls on what a case names. A case is known by the byte at which it begins.
+// The calls on what a case names.
 use crate::lent::fill;
 use crate::short;
 use crate::shown::{show_arena, show_reply};
-use show::field;
+use show::Case;
 use std::io;
 use std::io::Write;
 
@@ -36,35 +36,42 @@ const STATE: u32 = 27;
 
 const OPS: u32 = 29;
 
-// The calls, by their numbers.
-const TOTAL_OF: usize = 0;
+// Which call a case names, by its number; each other number is that of the last.
+enum Which {
+    Total,
+    Replace,
+    Keep,
+}
 
-const REPLACE: usize = 1;
+impl From<usize> for Which {
+    fn from(n: usize) -> Which {
+        match n {
+            0 => Which::Total,
+            1 => Which::Replace,
+            _ => Which::Keep,
+        }
+    }
+}
 
 // A number of two words, the low one first.
 pub(crate) fn number(s: &[u8], at: usize, j: u32) -> u64 {
-    let own = show::rest(s, at);
-    let i = j as usize;
-    let low = show::word(own, i);
-    let high = show::word(own, i + 1);
-    (high as u64) * 4294967296 + (low as u64)
+    Case::new(s, at).number(j)
 }
 
-fn count<W: Write>(out: &mut W, s: &[u8], at: usize, arena: &[f32]) -> io::Result<()> {
+fn count<W: Write>(out: &mut W, case: Case, arena: &[f32]) -> io::Result<()> {
     show_reply(
         out,
         total::stretch_total(
             arena,
-            number(s, at, FIRST) as usize,
-            number(s, at, COUNT) as usize,
+            case.number(FIRST) as usize,
+            case.number(COUNT) as usize,
         ),
     )
 }
 
 fn replace<W: Write>(
     out: &mut W,
-    s: &[u8],
-    at: usize,
+    case: Case,
     arena: &mut [f32],
     before: &[f32],
     weights: &[f32],
@@ -73,77 +80,65 @@ fn replace<W: Write>(
         out,
         total::replace_kind(
             arena,
-            number(s, at, TOTAL),
-            number(s, at, KIND) as usize,
+            case.number(TOTAL),
+            case.number(KIND) as usize,
             weights,
         ),
     )?;
-    show_arena(out, arena, before, show::listed(s, at, PLACES))
+    show_arena(out, arena, before, case.listed(PLACES))
 }
 
 fn keep<W: Write>(
     out: &mut W,
-    s: &[u8],
-    at: usize,
+    case: Case,
     arena: &mut [f32],
     before: &[f32],
     weights: &mut [f32],
 ) -> io::Result<()> {
-    short::run(
-        out,
-        show::listed(s, at, OPS),
-        show::listed(s, at, STATE),
-        arena,
-        weights,
-    )?;
-    show_arena(out, arena, before, show::listed(s, at, PLACES))
+    short::run(out, case.listed(OPS), case.listed(STATE), arena, weights)?;
+    show_arena(out, arena, before, case.listed(PLACES))
 }
 
 fn cut_call<W: Write>(
     out: &mut W,
-    s: &[u8],
-    at: usize,
+    case: Case,
     arena: &mut [f32],
     before: &[f32],
     weights: &mut [f32],
 ) -> io::Result<()> {
-    let m = field(s, at, WEIGHTS_LENGTH);
+    let m = case.field(WEIGHTS_LENGTH);
     if weights.len() < m {
         return Ok(());
     }
-    let which = field(s, at, CALL);
-    if which == TOTAL_OF {
-        return count(out, s, at, arena);
+    match Which::from(case.field(CALL)) {
+        Which::Total => count(out, case, arena),
+        Which::Replace => replace(out, case, arena, before, &weights[..m]),
+        Which::Keep => keep(out, case, arena, before, weights),
     }
-    if which == REPLACE {
-        return replace(out, s, at, arena, before, &weights[0..m]);
-    }
-    keep(out, s, at, arena, before, weights)
 }
 
 // The arena twice, so that it is known what it was, and the weights, each by its rule and as long as the case says.
 fn filled_call<W: Write>(
     out: &mut W,
-    s: &[u8],
-    at: usize,
+    case: Case,
     arena: &mut [f32],
     before: &mut [f32],
     weights: &mut [f32],
 ) -> io::Result<()> {
-    fill(arena, s, at, ARENA_RULE, ARENA_APART);
-    fill(before, s, at, ARENA_RULE, ARENA_APART);
-    fill(weights, s, at, WEIGHTS_RULE, WEIGHTS_APART);
-    let n = field(s, at, ARENA_LENGTH);
+    fill(arena, case, ARENA_RULE, ARENA_APART);
+    fill(before, case, ARENA_RULE, ARENA_APART);
+    fill(weights, case, WEIGHTS_RULE, WEIGHTS_APART);
+    let n = case.field(ARENA_LENGTH);
     if arena.len() < n || before.len() < n {
         return Ok(());
     }
-    cut_call(out, s, at, &mut arena[0..n], &before[0..n], weights)
+    cut_call(out, case, &mut arena[..n], &before[..n], weights)
 }
 
 // The call that a case names. An arena may be lent one place too long.
-pub(crate) fn call<W: Write>(out: &mut W, s: &[u8], at: usize) -> io::Result<()> {
+pub(crate) fn call<W: Write>(out: &mut W, case: Case) -> io::Result<()> {
     let mut arena = [0.0f32; 394753];
     let mut before = [0.0f32; 394753];
     let mut weights = [0.0f32; 196608];
-    filled_call(out, s, at, &mut arena, &mut before, &mut weights)
+    filled_call(out, case, &mut arena, &mut before, &mut weights)
 }

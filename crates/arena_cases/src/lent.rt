@@ -1,4 +1,5 @@
 // What a case lends: an arena or weights, by a rule.
+use show::Case;
 
 // The number with these bits; one NaN for all of theirs.
 fn float(bits: u32) -> f32 {
@@ -41,15 +42,14 @@ pub(crate) fn fill_by(part: &mut [f32], base: u32, step: u32, jump: u32, mask: u
 }
 
 // By the rule that begins at word j of a case, but for the weights that its word k names.
-pub(crate) fn fill(part: &mut [f32], s: &[u8], at: usize, j: u32, k: u32) {
-    let own = show::rest(s, at);
+pub(crate) fn fill(part: &mut [f32], case: Case, j: u32, k: u32) {
     let i = j as usize;
     fill_by(
         part,
-        show::word(own, i),
-        show::word(own, i + 1),
-        show::word(own, i + 2),
-        show::word(own, i + 3),
+        case.word(i),
+        case.word(i + 1),
+        case.word(i + 2),
+        case.word(i + 3),
     );
-    put_apart(part, show::listed(s, at, k));
+    put_apart(part, case.listed(k));
 }

@@ -14,29 +14,11 @@ mod lent;
 mod short;
 mod shown;
 
-// A case by its number, from 1 on: its name, and what it gives.
-fn run<W: Write>(out: &mut W, s: &[u8], i: usize) -> io::Result<()> {
-    let at = show::word(s, i) as usize;
-    show::text(out, show::named(s, at, 0))?;
-    show::end(out)?;
-    calls::call(out, s, at)
-}
-
-fn run_all<W: Write>(out: &mut W, s: &[u8]) -> io::Result<()> {
-    let n = show::word(s, 0) as usize;
-    let mut i = 0;
-    while i < n {
-        i += 1;
-        run(out, s, i)?;
-    }
-    Ok(())
-}
-
 fn main(rt: HostRuntime) -> io::Result<()> {
     let mut text = [0u8; 65536];
     let mut input = rt.stdin();
     let n = show::read_full(&mut input, &mut text)?;
     let mut out = io::writer(&rt);
-    run_all(&mut out, &text[..n])?;
+    show::run_cases(&mut out, &text[..n], |out, case| calls::call(out, case))?;
     out.flush()
 }

@@ -1,20 +1,29 @@
 -- Crate `show`: any two results that a public function's contract allows coincide, and what they leave in each lent slice. Assumes nothing.
 use mathlib.Core.Path.{◌≡◌, sym, ◌∙◌}
 use Rattle.coincide.proofs.Facts.{Ura, SProp, Fun, Memory, Routine, Coincide, one}
-use Rattle.show.specs.contracts.field as field
-use Rattle.show.specs.contracts.named as named
-use Rattle.show.specs.contracts.listed as listed
-use Rattle.show.specs.contracts.rows_listed as rows-listed
-use Rattle.show.specs.contracts.fill_by_rule as fill-by-rule
+use Rattle.show.specs.contracts.Case.new as new
+use Rattle.show.specs.contracts.Case.word as case-word
+use Rattle.show.specs.contracts.Case.field as field
+use Rattle.show.specs.contracts.Case.number as number
+use Rattle.show.specs.contracts.Case.named as named
+use Rattle.show.specs.contracts.Case.listed as listed
+use Rattle.show.specs.contracts.Case.rows_listed as rows-listed
+use Rattle.show.specs.contracts.Case.fill_by_rule as fill-by-rule
 use Rattle.show.specs.contracts.signed as signed
 use Rattle.show.specs.contracts.fill_samples as fill-samples
 use Rattle.show.specs.contracts.is_refused as is-refused
 use Rattle.show.specs.contracts.rest as rest
 use Rattle.show.specs.contracts.first as first
-use Rattle.show.specs.contracts.first_u16 as first-u16
-use Rattle.show.specs.contracts.first_i32 as first-i32
+use Rattle.show.specs.contracts.first_mut as first-mut
+use Rattle.show.specs.contracts.total_by as total-by
 use Rattle.show.specs.contracts.word as word
+use Prim.Native.Nat.{ℕ}
 use types.Logic.{Logic}
+use Rattle.show.specs.Totals.{Gives}
+use base.Logic.{ent}
+use contract.Monad.{conj, fact}
+use denote.RattleType.{RattleType}
+use denote.Builtin.{u16, i32}
 
 module _ {M : Type 1} {𝓤 : Ura M} (𝓛 : Logic 𝓤) (mem : Memory → SProp 𝓤) (run : Routine → Fun 𝓤) where
   pub field_coincide : Coincide 𝓤 field.ended (field.clauses 𝓛 mem run) (λ κs r q s t. r ≡ q)
@@ -29,7 +38,7 @@ module _ {M : Type 1} {𝓤 : Ura M} (𝓛 : Logic 𝓤) (mem : Memory → SProp
   pub rows_listed_coincide : Coincide 𝓤 rows-listed.ended (rows-listed.clauses 𝓛 mem run) (λ κs r q s t. r ≡ q)
   rows_listed_coincide κs a g r q s t = one 𝓤 (λ e f. e ∙ sym f)
 
-  pub fill_by_rule_coincide : Coincide 𝓤 fill-by-rule.ended (fill-by-rule.clauses 𝓛 mem run) (λ κs r q s t. s.0.now ≡ t.0.now)
+  pub fill_by_rule_coincide : Coincide 𝓤 fill-by-rule.ended (fill-by-rule.clauses 𝓛 mem run) (λ κs r q s t. s.1.0.now ≡ t.1.0.now)
   fill_by_rule_coincide κs a g r q s t = one 𝓤 (λ e f. e ∙ sym f)
 
   pub signed_coincide : Coincide 𝓤 signed.ended (signed.clauses 𝓛 mem run) (λ κs r q s t. r ≡ q)
@@ -44,14 +53,32 @@ module _ {M : Type 1} {𝓤 : Ura M} (𝓛 : Logic 𝓤) (mem : Memory → SProp
   pub rest_coincide : Coincide 𝓤 rest.ended (rest.clauses 𝓛 mem run) (λ κs r q s t. r.now ≡ q.now)
   rest_coincide κs a g r q s t = one 𝓤 (λ e f. e ∙ sym f)
 
-  pub first_coincide : Coincide 𝓤 first.ended (first.clauses 𝓛 mem run) (λ κs r q s t. r.now ≡ q.now)
-  first_coincide κs a g r q s t = one 𝓤 (λ e f. e ∙ sym f)
+  pub first_coincide : (T : RattleType) → Coincide 𝓤 (first.ended T) (first.clauses T 𝓛 mem run) (λ κs r q s t. r.now ≡ q.now)
+  first_coincide T κs a g r q s t = one 𝓤 (λ e f. e ∙ sym f)
 
-  pub first_u16_coincide : Coincide 𝓤 first-u16.ended (first-u16.clauses 𝓛 mem run) (λ κs r q s t. r.now ≡ q.now)
-  first_u16_coincide κs a g r q s t = one 𝓤 (λ e f. e ∙ sym f)
+  pub first_u16_coincide : Coincide 𝓤 (first.ended u16) (first.clauses u16 𝓛 mem run) (λ κs r q s t. r.now ≡ q.now)
+  first_u16_coincide = first_coincide u16
 
-  pub first_i32_coincide : Coincide 𝓤 first-i32.ended (first-i32.clauses 𝓛 mem run) (λ κs r q s t. r.now ≡ q.now)
-  first_i32_coincide κs a g r q s t = one 𝓤 (λ e f. e ∙ sym f)
+  pub first_i32_coincide : Coincide 𝓤 (first.ended i32) (first.clauses i32 𝓛 mem run) (λ κs r q s t. r.now ≡ q.now)
+  first_i32_coincide = first_coincide i32
+
+  pub first_mut_coincide : (T : RattleType) → Coincide 𝓤 (first-mut.ended T) (first-mut.clauses T 𝓛 mem run) (λ κs r q s t. r.now ≡ q.now)
+  first_mut_coincide T κs a g r q s t = one 𝓤 (λ e f. e ∙ sym f)
+
+  pub case_new_coincide : Coincide 𝓤 new.ended (new.clauses 𝓛 mem run) (λ κs r q s t. r ≡ q)
+  case_new_coincide κs a g r q s t = one 𝓤 (λ e f. e ∙ sym f)
+
+  pub case_word_coincide : Coincide 𝓤 case-word.ended (case-word.clauses 𝓛 mem run) (λ κs r q s t. r ≡ q)
+  case_word_coincide κs a g r q s t = one 𝓤 (λ e f. e ∙ sym f)
+
+  pub case_number_coincide : Coincide 𝓤 number.ended (number.clauses 𝓛 mem run) (λ κs r q s t. r ≡ q)
+  case_number_coincide κs a g r q s t = one 𝓤 (λ e f. e ∙ sym f)
+
+  -- at any number n that is all that the closure can answer for an item
+  pub total_by_coincide : (T F : RattleType) (copy : _) (d : _) (closure : _) (d' d'' d''' d'''' : _) → let by = total-by.clauses T F copy d closure d' d'' d''' d'''' 𝓛 mem run in
+      (κs : _) (a : _) (g : (by κs a).ghost) (r q : ℕ) (s t : _) (n : T.Denot → ℕ) → Gives (λ x m. closure.post a.1.0 (x, tt) m) n
+      → ent 𝓤 (conj 𝓤 ((by κs a).ensures g r s) ((by κs a).ensures g q t)) (fact 𝓤 (r ≡ q))
+  total_by_coincide T F copy d closure d' d'' d''' d'''' κs a g r q s t n h = one 𝓤 (λ e f. e n h ∙ sym (f n h))
 
   pub word_coincide : Coincide 𝓤 word.ended (word.clauses 𝓛 mem run) (λ κs r q s t. r ≡ q)
   word_coincide κs a g r q s t = one 𝓤 (λ e f. e ∙ sym f)

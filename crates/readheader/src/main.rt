@@ -7,7 +7,7 @@ use std::io::Write;
 
 // Whether rows were written to the end of the header or to a raw kind.
 fn has_rows(r: Reading) -> bool {
-    matches!(r, Reading::Done { .. } | Reading::Raw { .. })
+    r.is_ok()
 }
 
 fn main(rt: HostRuntime) -> io::Result<()> {

@@ -4,7 +4,7 @@
 // and in how many words, where its text or header is and its length, the buffer's length, the bit in two words, the low one first, and the kind.
 #![tactic(auto)]
 
-use record::{Taken, Written};
+use record::{ReadError, Taken, WriteError, Written};
 use show::Case;
 use std::io;
 use std::io::Write;
@@ -45,23 +45,24 @@ fn show_unchanged<W: Write>(out: &mut W, buffer: &[u8]) -> io::Result<()> {
     Ok(())
 }
 
+// Why a record was not written.
+fn show_unwritten<W: Write>(out: &mut W, why: WriteError) -> io::Result<()> {
+    match why {
+        WriteError::Lent => show::text(out, b"1\n"),
+        WriteError::Row { kind } => reply(out, 6, kind),
+        WriteError::Room { length } => reply(out, 9, length),
+    }
+}
+
 fn show_written<W: Write>(out: &mut W, r: Written, buffer: &[u8]) -> io::Result<()> {
     show::text(out, b"reply=")?;
     match r {
-        Written::Done { length } => {
+        Ok(length) => {
             reply(out, 0, length)?;
             show_record_of(out, buffer, length)
         }
-        Written::Lent => {
-            show::text(out, b"1\n")?;
-            show_unchanged(out, buffer)
-        }
-        Written::Row { kind } => {
-            reply(out, 6, kind)?;
-            show_unchanged(out, buffer)
-        }
-        Written::Room { length } => {
-            reply(out, 9, length)?;
+        Err(why) => {
+            show_unwritten(out, why)?;
             show_unchanged(out, buffer)
         }
     }
@@ -82,10 +83,10 @@ fn write<W: Write>(
 fn show_taken<W: Write>(out: &mut W, r: Taken) -> io::Result<()> {
     show::text(out, b"reply=")?;
     match r {
-        Taken::Done => show::text(out, b"0\n"),
-        Taken::Lent => show::text(out, b"1\n"),
-        Taken::Room { length } => reply(out, 9, length),
-        Taken::Text { length } => reply(out, 10, length),
+        Ok(()) => show::text(out, b"0\n"),
+        Err(ReadError::Lent) => show::text(out, b"1\n"),
+        Err(ReadError::Room { length }) => reply(out, 9, length),
+        Err(ReadError::Text { length }) => reply(out, 10, length),
     }
 }
 

@@ -1,66 +1,104 @@
-// The calls on what a case names. A case is known by the byte at which it begins.
-use crate::lent::{fill, first_weights};
+// The calls on what a case names.
+use crate::lent::fill;
 use crate::shown::{show_arenas, show_jpeg, show_part, show_reply};
 use dequant::Order;
 use matrix::Expanded;
-use show::field;
+use show::Case;
 use std::io;
 use std::io::Write;
 
-// The set, or its one kind.
-fn expand(
-    s: &[u8],
-    at: usize,
-    samples: &[i32],
-    straight: &mut [f32],
-    transposed: &mut [f32],
-) -> Expanded {
-    let rows = show::rows_listed(s, at, 12);
-    let part = show::first_u16(&rows, field(s, at, 14));
-    if field(s, at, 2) == 0 {
-        return dequant::expand(part, samples, straight, transposed);
-    }
-    matrix::expand_kind(field(s, at, 7), part, samples, straight, transposed)
+// Which call a case names, by its number; each other number is that of the last.
+enum Which {
+    Expand,
+    Lookup,
+    Jpeg,
+    ExpandKind,
+    Keys,
+    Summaries,
 }
 
-// Expands into arenas of the case's lengths, and shows the reply and both.
-fn expand_case<W: Write>(
+impl From<usize> for Which {
+    fn from(n: usize) -> Which {
+        match n {
+            0 => Which::Expand,
+            1 => Which::Lookup,
+            2 => Which::Jpeg,
+            3 => Which::ExpandKind,
+            4 => Which::Keys,
+            _ => Which::Summaries,
+        }
+    }
+}
+
+// With the case's samples.
+fn with_samples<W: Write, F: FnOnce(&mut W, &[i32]) -> io::Result<()>>(
     out: &mut W,
-    s: &[u8],
-    at: usize,
-    samples: &[i32],
-    straight: &mut [f32],
-    transposed: &mut [f32],
-) -> io::Result<()> {
-    show_reply(out, expand(s, at, samples, straight, transposed))?;
-    show_arenas(out, show::listed(s, at, 10), straight, transposed)
+    case: Case,
+    call: F,
+) -> io::Result<()>
+    requires { F.IsAlwaysCallable call }
+{
+    let mut samples = [0i32; 394752];
+    fill(&mut samples, case);
+    call(out, show::first(&samples, case.field(3)))
+}
+
+// With two arenas of the case's lengths, whose weights have the bits deadbeef.
+fn with_arenas<W: Write, F: FnOnce(&mut W, &mut [f32], &mut [f32]) -> io::Result<()>>(
+    out: &mut W,
+    case: Case,
+    call: F,
+) -> io::Result<()>
+    requires { F.IsAlwaysCallable call }
+{
+    let mut straight = [-6259853398707798016.0f32; 394752];
+    let mut transposed = [-6259853398707798016.0f32; 394752];
+    call(
+        out,
+        show::first_mut(&mut straight, case.field(15)),
+        show::first_mut(&mut transposed, case.field(16)),
+    )
+}
+
+// Expands into two arenas, and shows the reply and both.
+fn expand_case<W: Write, F: FnOnce(&[u16], &[i32], &mut [f32], &mut [f32]) -> Expanded>(
+    out: &mut W,
+    case: Case,
+    expand: F,
+) -> io::Result<()>
+    requires { F.IsAlwaysCallable expand }
+{
+    let rows = case.rows_listed(12);
+    let part = show::first(&rows, case.field(14));
+    with_samples(out, case, |out, samples| {
+        with_arenas(out, case, |out, straight, transposed| {
+            show_reply(out, expand(part, samples, straight, transposed))?;
+            show_arenas(out, case.listed(10), straight, transposed)
+        })
+    })
 }
 
 // Weights that count up from a number.
 fn count_up(part: &mut [f32], from: f32) {
-    let mut i = 0;
-    let mut x = from;
-    while i < part.len() {
-        part[i] = x;
-        x = x + 1.0;
-        i += 1;
+    let mut next = from;
+    for x in part.iter_mut() {
+        *x = next;
+        next += 1.0;
     }
 }
 
+// An order by its number; each other number is that of the last.
 fn order(n: usize) -> Order {
-    if n == 0 {
-        return Order::Unnamed;
+    match n {
+        0 => Order::Unnamed,
+        1 => Order::Straight,
+        _ => Order::Transposed,
     }
-    if n == 1 {
-        return Order::Straight;
-    }
-    Order::Transposed
 }
 
 fn lookup<'a, W: Write>(
     out: &mut W,
-    s: &[u8],
-    at: usize,
+    case: Case,
     straight: &'a [f32],
     transposed: &'a [f32],
 ) -> io::Result<()> {
@@ -69,98 +107,42 @@ fn lookup<'a, W: Write>(
         dequant::lookup(
             straight,
             transposed,
-            field(s, at, 7),
-            field(s, at, 8),
-            order(field(s, at, 9)),
+            case.field(7),
+            case.field(8),
+            order(case.field(9)),
         ),
     )
 }
 
 // Looks a part up in arenas whose weights tell their places.
-fn lookup_case<W: Write>(
-    out: &mut W,
-    s: &[u8],
-    at: usize,
-    straight: &mut [f32],
-    transposed: &mut [f32],
-) -> io::Result<()> {
-    count_up(straight, 0.0);
-    count_up(transposed, 1048576.0);
-    lookup(out, s, at, straight, transposed)
+fn lookup_case<W: Write>(out: &mut W, case: Case) -> io::Result<()> {
+    with_arenas(out, case, |out, straight, transposed| {
+        count_up(straight, 0.0);
+        count_up(transposed, 1048576.0);
+        lookup(out, case, straight, transposed)
+    })
 }
 
-fn cut_call<W: Write>(
-    out: &mut W,
-    s: &[u8],
-    at: usize,
-    samples: &[i32],
-    straight: &mut [f32],
-    transposed: &mut [f32],
-) -> io::Result<()> {
-    if field(s, at, 2) == 1 {
-        lookup_case(out, s, at, straight, transposed)
-    } else {
-        expand_case(out, s, at, samples, straight, transposed)
-    }
-}
-
-// With two arenas of the case's lengths, whose weights have the bits deadbeef.
-fn with_arenas<W: Write>(out: &mut W, s: &[u8], at: usize, samples: &[i32]) -> io::Result<()> {
-    let mut straight = [-6259853398707798016.0f32; 394752];
-    let mut transposed = [-6259853398707798016.0f32; 394752];
-    cut_call(
-        out,
-        s,
-        at,
-        samples,
-        first_weights(&mut straight, field(s, at, 15)),
-        first_weights(&mut transposed, field(s, at, 16)),
-    )
-}
-
-fn jpeg_case<W: Write>(out: &mut W, s: &[u8], at: usize, samples: &[i32]) -> io::Result<()> {
-    let rows = show::rows_listed(s, at, 12);
-    show_jpeg(
-        out,
-        show::first_u16(&rows, field(s, at, 14)),
-        samples,
-        field(s, at, 8),
-    )
-}
-
-fn lent_call<W: Write>(out: &mut W, s: &[u8], at: usize, samples: &[i32]) -> io::Result<()> {
-    if field(s, at, 2) == 2 {
-        jpeg_case(out, s, at, samples)
-    } else {
-        with_arenas(out, s, at, samples)
-    }
-}
-
-fn filled_call<W: Write>(out: &mut W, s: &[u8], at: usize, samples: &mut [i32]) -> io::Result<()> {
-    fill(samples, s, at);
-    lent_call(out, s, at, show::first_i32(samples, field(s, at, 3)))
-}
-
-// The samples are lent once: a goal after a second loan would count them.
-fn with_samples<W: Write>(out: &mut W, s: &[u8], at: usize) -> io::Result<()> {
-    let mut samples = [0i32; 394752];
-    filled_call(out, s, at, &mut samples)
-}
-
-// What a program lists of the case's header.
-fn header_call<W: Write>(out: &mut W, s: &[u8], at: usize) -> io::Result<()> {
-    if field(s, at, 2) == 4 {
-        show_set::keys(out, show::named(s, at, 19))
-    } else {
-        show_set::summaries(out, show::named(s, at, 19))
-    }
+fn jpeg_case<W: Write>(out: &mut W, case: Case) -> io::Result<()> {
+    let rows = case.rows_listed(12);
+    let part = show::first(&rows, case.field(14));
+    with_samples(out, case, |out, samples| {
+        show_jpeg(out, part, samples, case.field(8))
+    })
 }
 
 // The call that a case names.
-pub(crate) fn call<W: Write>(out: &mut W, s: &[u8], at: usize) -> io::Result<()> {
-    if field(s, at, 2) > 3 {
-        header_call(out, s, at)
-    } else {
-        with_samples(out, s, at)
+pub(crate) fn call<W: Write>(out: &mut W, case: Case) -> io::Result<()> {
+    match Which::from(case.field(2)) {
+        Which::Expand => expand_case(out, case, |rows, samples, straight, transposed| {
+            dequant::expand(rows, samples, straight, transposed)
+        }),
+        Which::Lookup => lookup_case(out, case),
+        Which::Jpeg => jpeg_case(out, case),
+        Which::ExpandKind => expand_case(out, case, |rows, samples, straight, transposed| {
+            matrix::expand_kind(case.field(7), rows, samples, straight, transposed)
+        }),
+        Which::Keys => show_set::keys(out, case.named(19)),
+        Which::Summaries => show_set::summaries(out, case.named(19)),
     }
 }

@@ -1,6 +1,6 @@
 // What is written of each call.
-use dequant::Jpeg;
-use matrix::Expanded;
+use dequant::{Jpeg, JpegError};
+use matrix::{ExpandError, Expanded};
 use std::io;
 use std::io::Write;
 
@@ -21,23 +21,30 @@ fn three<W: Write>(
     show::next(out, last as u64)
 }
 
-// The reply of an expansion: its number, and its values.
-fn reply<W: Write>(out: &mut W, r: Expanded) -> io::Result<()> {
-    match r {
-        Expanded::Done => show::decimal(out, 0),
-        Expanded::Lent => show::decimal(out, 1),
-        Expanded::Row { kind } => one(out, 6, kind),
-        Expanded::Band {
+// The number of what refuses an expansion, and its values.
+fn refused<W: Write>(out: &mut W, why: ExpandError) -> io::Result<()> {
+    match why {
+        ExpandError::Lent => show::decimal(out, 1),
+        ExpandError::Row { kind } => one(out, 6, kind),
+        ExpandError::Band {
             kind,
             channel,
             band,
         } => three(out, 7, kind, channel, band),
-        Expanded::Weight {
+        ExpandError::Weight {
             kind,
             channel,
             place,
         } => three(out, 8, kind, channel, place),
-        Expanded::Denom { kind } => one(out, 12, kind),
+        ExpandError::Denom { kind } => one(out, 12, kind),
+    }
+}
+
+// The reply of an expansion: its number, and its values.
+fn reply<W: Write>(out: &mut W, r: Expanded) -> io::Result<()> {
+    match r {
+        Ok(()) => show::decimal(out, 0),
+        Err(why) => refused(out, why),
     }
 }
 
@@ -49,14 +56,7 @@ pub(crate) fn show_reply<W: Write>(out: &mut W, r: Expanded) -> io::Result<()> {
 
 // Whether each weight has these bits.
 fn all_of(part: &[f32], bits: u32) -> bool {
-    let mut i = 0;
-    while i < part.len() {
-        if total::bits(part[i]) != bits {
-            return false;
-        }
-        i += 1;
-    }
-    true
+    part.iter().all(|x| total::bits(*x) == bits)
 }
 
 // An arena: unchanged, zero, or its weights.
@@ -104,20 +104,18 @@ pub(crate) fn show_part<W: Write>(out: &mut W, part: &[f32]) -> io::Result<()> {
 
 // Values as weights: whole numbers that an f32 has.
 fn show_values<W: Write>(out: &mut W, part: &[i32]) -> io::Result<()> {
-    let mut i = 0;
-    while i < part.len() {
-        show_weights::item(out, i, std::num::nearest_i32_to_f32(part[i]))?;
-        i += 1;
+    for (i, x) in part.iter().enumerate() {
+        show_weights::item(out, i, std::num::nearest_i32_to_f32(*x))?;
     }
     Ok(())
 }
 
 fn jpeg_number(r: Jpeg) -> u64 {
     match r {
-        Jpeg::Done => 0,
-        Jpeg::Lent => 1,
-        Jpeg::Row { kind: _ } => 6,
-        Jpeg::None => 11,
+        Ok(()) => 0,
+        Err(JpegError::Lent) => 1,
+        Err(JpegError::Row { .. }) => 6,
+        Err(JpegError::None) => 11,
     }
 }
 

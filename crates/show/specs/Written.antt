@@ -1,8 +1,9 @@
 -- What the lines are that programs write, as bytes: numbers in decimal, those of a row in hexadecimal.
-use Rattle.std.specs.Prelude.{ℕ, zero, suc, List, [], ◌++◌, false, cond, eqb, get_or, length, codes, decimal}
+use Rattle.std.specs.Prelude.{ℕ, zero, suc, List, [], ◌++◌, false, cond, eqb, get_or, length, codes, decimal, Ok, Err}
 use Rattle.std.specs.Fmt.{digits}
-use Rattle.params.specs.declared.read.Reading.{Reading}
-use Rattle.params.specs.declared.read.Reading.TheVariants.{Done, Lent, Short, Mode, Float, Raw}
+use Rattle.params.specs.Header.{Reading}
+use Rattle.params.specs.declared.read.Stop.TheVariants.{Done, Raw}
+use Rattle.params.specs.declared.read.HeaderError.TheVariants.{Lent, Short, Mode, Float}
 
 -- a number behind a blank
 abbrev pub next_of : ℕ → List ℕ
@@ -18,12 +19,12 @@ reply_of_two number kind bit = decimal number ++ next_of kind ++ next_of bit
 
 -- the numbers of a reading's reply
 abbrev pub reading_of : Reading → List ℕ
-reading_of (Done q) = decimal 0 ++ next_of q
-reading_of Lent = decimal 1
-reading_of (Short k p l) = reply_of_two 2 k p ++ next_of l
-reading_of (Mode k p) = reply_of_two 3 k p
-reading_of (Float k p) = reply_of_two 4 k p
-reading_of (Raw k q) = reply_of_two 5 k q
+reading_of (Ok (Done q)) = decimal 0 ++ next_of q
+reading_of (Err Lent) = decimal 1
+reading_of (Err (Short k p l)) = reply_of_two 2 k p ++ next_of l
+reading_of (Err (Mode k p)) = reply_of_two 3 k p
+reading_of (Err (Float k p)) = reply_of_two 4 k p
+reading_of (Ok (Raw k q)) = reply_of_two 5 k q
 
 -- the lines of a refusal: its number, the kind and the bit
 abbrev pub refused_of_two : ℕ → ℕ → ℕ → List ℕ
@@ -31,12 +32,12 @@ refused_of_two number kind bit = line_of (codes "refused=") number ++ line_of (c
 
 -- the lines of a refused reading, and none of one that is done
 abbrev pub refusal_of : Reading → List ℕ
-refusal_of (Done q) = []
-refusal_of Lent = line_of (codes "refused=") 1
-refusal_of (Short k p l) = refused_of_two 2 k p ++ line_of (codes "lacks=") l
-refusal_of (Mode k p) = refused_of_two 3 k p
-refusal_of (Float k p) = refused_of_two 4 k p
-refusal_of (Raw k q) = refused_of_two 5 k q
+refusal_of (Ok (Done q)) = []
+refusal_of (Err Lent) = line_of (codes "refused=") 1
+refusal_of (Err (Short k p l)) = refused_of_two 2 k p ++ line_of (codes "lacks=") l
+refusal_of (Err (Mode k p)) = refused_of_two 3 k p
+refusal_of (Err (Float k p)) = refused_of_two 4 k p
+refusal_of (Ok (Raw k q)) = refused_of_two 5 k q
 
 -- how many of the first n numbers of a row are written: the zeros at the end are not, but the first number always is
 unfoldable pub used_of : List ℕ → ℕ → ℕ

@@ -21,13 +21,13 @@ pub struct Case<'a> {
 impl<'a> Case<'a> {
     // The case that begins at byte `at`.
     pub fn new(bytes: &'a [u8], at: usize) -> Case<'a>
-        ensures bytes { result.bytes.now ≡ bytes.now }
-        ensures at { result.at ≡ at }
+        ensures { result ≡ record { bytes = bytes.entry; at = at } }
     {
         Case { bytes, at }
     }
 
-    fn field_bits(self, j: usize) -> u32
+    // The word number j of a case, with its 32 bits.
+    pub fn word(self, j: usize) -> u32
         ensures { result ≡ field_at self.entry.bytes.now self.entry.at j }
     {
         word(rest(self.bytes, self.at), j)
@@ -37,7 +37,7 @@ impl<'a> Case<'a> {
     pub fn field(self, j: usize) -> usize
         ensures { result ≡ field_at self.entry.bytes.now self.entry.at j }
     {
-        self.field_bits(j) as usize
+        self.word(j) as usize
     }
 
     // The number of a case's word j and the next, the low one first.
@@ -45,7 +45,7 @@ impl<'a> Case<'a> {
         ensures { result ≡ number_at self.entry.bytes.now self.entry.at j }
     {
         let i = j as usize;
-        u64::from(self.field_bits(i)) + 4294967296 * u64::from(self.field_bits(i + 1))
+        u64::from(self.word(i)) + 4294967296 * u64::from(self.word(i + 1))
     }
 
     // The bytes that a case names by word j, where they begin, and the next, how many there are.
@@ -62,7 +62,7 @@ impl<'a> Case<'a> {
         ensures { result.now ≡ listed_at self.entry.bytes.now self.entry.at j }
     {
         let i = j as usize;
-        let n = self.field_bits(i + 1) as usize;
+        let n = self.word(i + 1) as usize;
         first(rest(self.bytes, self.field(i)), 4 * n)
     }
 
@@ -80,9 +80,9 @@ impl<'a> Case<'a> {
     pub fn fill_by_rule(self, samples: &mut [i32])
         ensures { samples.new ≡ samples_by (field_at self.entry.bytes.now self.entry.at 4) (field_at self.entry.bytes.now self.entry.at 5) (field_at self.entry.bytes.now self.entry.at 6) samples.old }
     {
-        let base = self.field_bits(4);
-        let step = self.field_bits(5);
-        let modulus = self.field_bits(6);
+        let base = self.word(4);
+        let step = self.word(5);
+        let modulus = self.word(6);
         fill_samples(samples, base, step, modulus);
     }
 }

@@ -10,7 +10,7 @@ ghost use Rattle.std.specs.Io.KnownBytes.{Appends};
 ghost use Rattle.show.specs.Written.{next_of, line_of, reply_of_two, reading_of, refused_of_two, refusal_of, used_of, item_of, row_of};
 ghost use Rattle.show.specs.Refused.{refused_is};
 
-use params::Reading;
+use params::{HeaderError, Reading, Stop};
 use std::io;
 use std::io::Write;
 
@@ -96,12 +96,12 @@ fn reading<W: Write>(out: &mut W, r: Reading) -> io::Result<()>
     ensures bytes { OnOk result (Appends (W.contents out.old) (W.contents out.new) (reading_of r)) }
 {
     match r {
-        Reading::Done { next } => done(out, next),
-        Reading::Lent => decimal(out, 1),
-        Reading::Short { kind, bit, lacks } => short_reply(out, kind, bit, lacks),
-        Reading::Mode { kind, bit } => reply(out, 3, kind, bit),
-        Reading::Float { kind, bit } => reply(out, 4, kind, bit),
-        Reading::Raw { kind, next } => reply(out, 5, kind, next),
+        Ok(Stop::Done { next }) => done(out, next),
+        Err(HeaderError::Lent) => decimal(out, 1),
+        Err(HeaderError::Short { kind, bit, lacks }) => short_reply(out, kind, bit, lacks),
+        Err(HeaderError::Mode { kind, bit }) => reply(out, 3, kind, bit),
+        Err(HeaderError::Float { kind, bit }) => reply(out, 4, kind, bit),
+        Ok(Stop::Raw { kind, next }) => reply(out, 5, kind, next),
     }
 }
 
@@ -138,7 +138,7 @@ pub fn kind<W: Write>(out: &mut W, kind: usize) -> io::Result<()>
 pub fn is_refused(r: Reading) -> bool
     ensures { result ≡ refused_is r }
 {
-    !matches!(r, Reading::Done { .. })
+    !matches!(r, Ok(Stop::Done { .. }))
 }
 
 // A refused reading, a line for each number, and nothing of one that is done.
@@ -146,12 +146,12 @@ pub fn refused<W: Write>(out: &mut W, r: Reading) -> io::Result<()>
     ensures bytes { OnOk result (Appends (W.contents out.old) (W.contents out.new) (refusal_of r)) }
 {
     match r {
-        Reading::Done { .. } => Ok(()),
-        Reading::Lent => refusal(out, 1),
-        Reading::Short { kind, bit, lacks } => refused_short(out, kind, bit, lacks),
-        Reading::Mode { kind, bit } => refused_at(out, 3, kind, bit),
-        Reading::Float { kind, bit } => refused_at(out, 4, kind, bit),
-        Reading::Raw { kind, next } => refused_at(out, 5, kind, next),
+        Ok(Stop::Done { .. }) => Ok(()),
+        Err(HeaderError::Lent) => refusal(out, 1),
+        Err(HeaderError::Short { kind, bit, lacks }) => refused_short(out, kind, bit, lacks),
+        Err(HeaderError::Mode { kind, bit }) => refused_at(out, 3, kind, bit),
+        Err(HeaderError::Float { kind, bit }) => refused_at(out, 4, kind, bit),
+        Ok(Stop::Raw { kind, next }) => refused_at(out, 5, kind, next),
     }
 }
 

@@ -1,7 +1,6 @@
 // What `quantlist` writes of a header. Why it has no contract: see the head of `show`.
 #![tactic(auto)]
 
-use record::Written;
 use std::io;
 use std::io::Write;
 
@@ -10,8 +9,8 @@ use std::io::Write;
 fn show_rows<W: Write>(out: &mut W, rows: &[u16]) -> io::Result<()> {
     let mut text = [0u8; 8192];
     match record::write_record(rows, &[], &mut text) {
-        Written::Done { length } => show::text(out, show::first(&text, length)),
-        Written::Lent | Written::Row { .. } | Written::Room { .. } => Ok(()),
+        Ok(length) => show::text(out, show::first(&text, length)),
+        Err(_) => Ok(()),
     }
 }
 

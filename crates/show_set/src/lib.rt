@@ -1,7 +1,7 @@
 // What programs write of a header's set. Why it has no contract: see the head of `show`.
 #![tactic(auto)]
 
-use matrix::Expanded;
+use matrix::{ExpandError, Expanded};
 use std::io;
 use std::io::Write;
 
@@ -39,27 +39,31 @@ fn refused_weight<W: Write>(
     show::line(out, b"place=", place as u64)
 }
 
-// Whether an expansion was done. A refusal is written, a line for each number.
-fn is_done<W: Write>(out: &mut W, r: Expanded) -> io::Result<bool> {
-    match r {
-        Expanded::Done => {
-            return Ok(true);
-        }
-        Expanded::Lent => show::refusal(out, 1)?,
-        Expanded::Row { kind } => refused_kind(out, 6, kind)?,
-        Expanded::Band {
+// What refuses an expansion, a line for each number.
+fn refused<W: Write>(out: &mut W, why: ExpandError) -> io::Result<()> {
+    match why {
+        ExpandError::Lent => show::refusal(out, 1),
+        ExpandError::Row { kind } => refused_kind(out, 6, kind),
+        ExpandError::Band {
             kind,
             channel,
             band,
-        } => refused_band(out, kind, channel, band)?,
-        Expanded::Weight {
+        } => refused_band(out, kind, channel, band),
+        ExpandError::Weight {
             kind,
             channel,
             place,
-        } => refused_weight(out, kind, channel, place)?,
-        Expanded::Denom { kind } => refused_kind(out, 12, kind)?,
+        } => refused_weight(out, kind, channel, place),
+        ExpandError::Denom { kind } => refused_kind(out, 12, kind),
     }
-    Ok(false)
+}
+
+// Whether an expansion was done. A refusal is written.
+fn is_done<W: Write>(out: &mut W, r: Expanded) -> io::Result<bool> {
+    if let Err(why) = r {
+        refused(out, why)?;
+    }
+    Ok(r.is_ok())
 }
 
 fn expand_rows<W: Write>(

@@ -4,10 +4,11 @@ use Rattle.bands.specs.Grids.{grid_cell, grid_of}
 use Rattle.bands.proofs.Laid.{laid_none, laid_at_lem, laid_all}
 use Rattle.bands.proofs.Cells.{sized, next_row, area_pos}
 use Rattle.bands.proofs.Mirror.{mirrored}
+use Rattle.bands.proofs.Tables.{blank}
 use Rattle.bands.proofs.grid.fill_many.Goals as goal
 
-pub chains-t-requires : goal.chains-t-requires
-chains-t-requires c = c.requires.0.few
+pub chains-requires : goal.chains-requires
+chains-requires c = (c.requires.0.few, blank)
 
 pub loop-y-init : goal.loop-y-init
 loop-y-init c =

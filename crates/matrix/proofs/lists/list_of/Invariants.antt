@@ -6,4 +6,4 @@ use Rattle.matrix.specs.Numbers.{band_number}
 use Rattle.matrix.proofs.lists.list_of.Given as goal
 
 abbrev pub invariant-loop-j : goal.invariant-loop-j
-invariant-loop-j l = l.list ≡ sets l.initial.list 0 (tab l.j (band_number l.n l.l))
+invariant-loop-j l = l.numbers ≡ sets l.initial.numbers 0 (tab l.j (band_number l.n l.l))
