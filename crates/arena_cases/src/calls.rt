@@ -53,11 +53,6 @@ impl From<usize> for Which {
     }
 }
 
-// A number of two words, the low one first.
-pub(crate) fn number(s: &[u8], at: usize, j: u32) -> u64 {
-    Case::new(s, at).number(j)
-}
-
 fn count<W: Write>(out: &mut W, case: Case, arena: &[f32]) -> io::Result<()> {
     show_reply(
         out,

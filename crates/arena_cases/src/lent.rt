@@ -32,9 +32,14 @@ fn stepped(sum: u32, p: usize, step: u32, jump: u32) -> u32 {
     next
 }
 
-// The bits at place p are base + p x step + (p / 128) x jump, by 2^32, less those that the mask takes out.
-pub(crate) fn fill_by(part: &mut [f32], base: u32, step: u32, jump: u32, mask: u32) {
-    let mut sum = base;
+// By the rule that begins at word j of a case, base, step, jump and mask: the bits at place p are base + p x step + (p / 128) x jump, by
+// 2^32, less those that the mask takes out.
+pub(crate) fn fill_by(part: &mut [f32], case: Case, j: u32) {
+    let i = j as usize;
+    let step = case.word(i + 1);
+    let jump = case.word(i + 2);
+    let mask = case.word(i + 3);
+    let mut sum = case.word(i);
     for (p, x) in part.iter_mut().enumerate() {
         *x = float(sum & mask);
         sum = stepped(sum, p, step, jump);
@@ -43,13 +48,6 @@ pub(crate) fn fill_by(part: &mut [f32], base: u32, step: u32, jump: u32, mask: u
 
 // By the rule that begins at word j of a case, but for the weights that its word k names.
 pub(crate) fn fill(part: &mut [f32], case: Case, j: u32, k: u32) {
-    let i = j as usize;
-    fill_by(
-        part,
-        case.word(i),
-        case.word(i + 1),
-        case.word(i + 2),
-        case.word(i + 3),
-    );
+    fill_by(part, case, j);
     put_apart(part, case.listed(k));
 }

@@ -1,8 +1,8 @@
 // Calls on a short arena, one after another, each handed the arena and the state that the last one left.
-use crate::calls::number;
 use crate::lent::fill_by;
 use crate::shown::show_total;
 use short_arena::{Part, ShortError, State};
+use show::Case;
 use std::io::Write;
 use std::{array, io};
 
@@ -13,7 +13,7 @@ const KIND: u32 = 1;
 
 const LENGTH: usize = 3;
 
-const RULE: usize = 4;
+const RULE: u32 = 4;
 
 // The bytes of a call.
 const CALL: usize = 32;
@@ -72,28 +72,22 @@ fn show_state<W: Write>(out: &mut W, state: &State) -> io::Result<()> {
 
 fn add<W: Write>(
     out: &mut W,
-    own: &[u8],
+    own: Case,
     arena: &mut [f32],
     state: &mut State,
     weights: &mut [f32],
 ) -> io::Result<()> {
-    fill_by(
-        weights,
-        show::word(own, RULE),
-        show::word(own, RULE + 1),
-        show::word(own, RULE + 2),
-        show::word(own, RULE + 3),
-    );
-    let m = show::word(own, LENGTH) as usize;
+    fill_by(weights, own, RULE);
+    let m = own.field(LENGTH);
     if weights.len() < m {
         return Ok(());
     }
-    let added = short_arena::add(arena, state, number(own, 0, KIND) as usize, &weights[0..m]);
+    let added = short_arena::add(arena, state, own.number(KIND) as usize, &weights[0..m]);
     show_answer(out, added.map(Some))
 }
 
-fn lookup<W: Write>(out: &mut W, own: &[u8], arena: &[f32], state: &State) -> io::Result<()> {
-    let kind = number(own, 0, KIND) as usize;
+fn lookup<W: Write>(out: &mut W, own: Case, arena: &[f32], state: &State) -> io::Result<()> {
+    let kind = own.number(KIND) as usize;
     show_answer(
         out,
         short_arena::lookup_reply(arena, *state, kind).map(Some),
@@ -103,22 +97,22 @@ fn lookup<W: Write>(out: &mut W, own: &[u8], arena: &[f32], state: &State) -> io
 
 fn drop_kind<W: Write>(
     out: &mut W,
-    own: &[u8],
+    own: Case,
     arena: &mut [f32],
     state: &mut State,
 ) -> io::Result<()> {
-    let dropped = short_arena::drop_kind(arena, state, number(own, 0, KIND) as usize);
+    let dropped = short_arena::drop_kind(arena, state, own.number(KIND) as usize);
     show_answer(out, dropped.map(|()| None))
 }
 
 fn call<W: Write>(
     out: &mut W,
-    own: &[u8],
+    own: Case,
     arena: &mut [f32],
     state: &mut State,
     weights: &mut [f32],
 ) -> io::Result<()> {
-    match show::word(own, WHICH) {
+    match own.word(WHICH) {
         ADD => add(out, own, arena, state, weights),
         LOOKUP => lookup(out, own, arena, state),
         _ => drop_kind(out, own, arena, state),
@@ -135,7 +129,7 @@ pub(crate) fn run<W: Write>(
 ) -> io::Result<()> {
     let mut last = state_of(state);
     for own in list.chunks_exact(CALL) {
-        call(out, own, arena, &mut last, weights)?;
+        call(out, Case::new(own, 0), arena, &mut last, weights)?;
     }
     show_state(out, &last)
 }
