@@ -3,13 +3,12 @@
 #![tactic(auto)]
 
 use std::io;
-use std::io::Write;
 
 fn main(rt: HostRuntime) -> io::Result<()> {
-    let mut header = [0u8; 2550];
-    let mut input = rt.stdin();
-    let n = show::read_full(&mut input, &mut header)?;
-    let mut out = io::writer(&rt);
-    show_set::keys(&mut out, &header[..n])?;
-    out.flush()
+    show::run(
+        &mut rt.stdin(),
+        &mut io::writer(&rt),
+        &mut [0u8; 2550],
+        |out, header| show_set::keys(out, header),
+    )
 }

@@ -10,18 +10,24 @@ fn has_rows(r: Reading) -> bool {
     r.is_ok()
 }
 
-fn main(rt: HostRuntime) -> io::Result<()> {
-    let mut header = [0u8; 2550];
-    let mut input = rt.stdin();
-    let n = show::read_full(&mut input, &mut header)?;
-    let mut out = io::writer(&rt);
+// The reply of a header, and its rows.
+fn show_header<W: Write>(out: &mut W, header: &[u8]) -> io::Result<()> {
     let mut rows = [0u16; 2176];
-    let r = params::read_header(&header[..n], 0, 0, &mut rows);
-    show::reply_line(&mut out, r)?;
+    let r = params::read_header(header, 0, 0, &mut rows);
+    show::reply_line(out, r)?;
     if has_rows(r) {
         for (kind, row) in rows.chunks(128).enumerate() {
-            show::row(&mut out, kind, row)?;
+            show::row(out, kind, row)?;
         }
     }
-    out.flush()
+    Ok(())
+}
+
+fn main(rt: HostRuntime) -> io::Result<()> {
+    show::run(
+        &mut rt.stdin(),
+        &mut io::writer(&rt),
+        &mut [0u8; 2550],
+        |out, header| show_header(out, header),
+    )
 }

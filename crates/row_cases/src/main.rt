@@ -226,10 +226,10 @@ fn with_buffer<W: Write>(out: &mut W, s: &[u8]) -> io::Result<()> {
 }
 
 fn main(rt: HostRuntime) -> io::Result<()> {
-    let mut text = [0u8; 65536];
-    let mut input = rt.stdin();
-    let n = show::read_full(&mut input, &mut text)?;
-    let mut out = io::writer(&rt);
-    with_buffer(&mut out, &text[..n])?;
-    out.flush()
+    show::run(
+        &mut rt.stdin(),
+        &mut io::writer(&rt),
+        &mut [0u8; 65536],
+        |out, text| with_buffer(out, text),
+    )
 }

@@ -6,17 +6,16 @@
 #![tactic(auto)]
 
 use std::io;
-use std::io::Write;
 
 mod calls;
 mod lent;
 mod shown;
 
 fn main(rt: HostRuntime) -> io::Result<()> {
-    let mut text = [0u8; 65536];
-    let mut input = rt.stdin();
-    let n = show::read_full(&mut input, &mut text)?;
-    let mut out = io::writer(&rt);
-    show::run_cases(&mut out, &text[..n], |out, case| calls::call(out, case))?;
-    out.flush()
+    show::run(
+        &mut rt.stdin(),
+        &mut io::writer(&rt),
+        &mut [0u8; 65536],
+        |out, text| show::run_cases(out, text, |out, case| calls::call(out, case)),
+    )
 }

@@ -24,7 +24,7 @@ mod words;
 pub use cases::{Case, run_cases};
 pub use filled::{fill_samples, signed};
 pub use parts::{first, first_mut, rest};
-pub use stream::read_full;
+pub use stream::{read_full, run};
 pub use totals::total_by;
 pub use words::word;
 
