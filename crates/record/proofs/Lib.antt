@@ -8,7 +8,7 @@ pub mod Places
 pub mod Positions
 pub mod HalfPlaces
 pub mod ItemPlaces
-pub mod Slots
+pub mod Readers
 pub mod SignPlaces
 pub mod Stores
 pub mod SampleStores

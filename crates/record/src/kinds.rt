@@ -3,37 +3,35 @@ ghost use Rattle.std.specs.Prelude.{◌≡◌, List, ℕ, ◌+◌, ◌*◌, ◌�
 ghost use Rattle.std.proofs.lemmas.List.Edits.{sets};
 ghost use Rattle.transform.specs.Kinds.{start_of};
 ghost use Rattle.params.specs.Row.{fixed};
-ghost use Rattle.record.specs.Format.{got, pick};
+ghost use Rattle.record.specs.Format.{pick};
 ghost use Rattle.record.specs.Text.{bytes};
 ghost use Rattle.record.specs.Number.{signed};
 ghost use Rattle.record.specs.Record.{line, sample_count, parts};
 ghost use Rattle.record.specs.Rows.{Row, row_format};
-ghost use Rattle.record.specs.Answers.{read_at, seen, Fresh, PartsStored, RowStored};
+ghost use Rattle.record.specs.Answers.{Reads, Fresh, PartsStored, RowStored};
 
-use crate::Bad;
 use crate::fixed::mode_at;
 use crate::piece::fixed_at;
 use crate::put::store_all;
 use crate::series::{Bands, Numbers, Samples, Series, items_at};
+use crate::{Bad, Text};
 use transform::Kind;
 
 // The line of n items of a series, where there is one, stored from a place on.
 fn line_at<S: Series>(
-    s: &[u8],
-    at: usize,
+    text: &mut Text,
     n: usize,
     out: &mut [S::Item],
     place: usize,
-) -> Result<usize, Bad>
-    requires { (at ≤ length s.now) × (place + n < 4294967296) }
-    ensures scanned { result ≡ seen (read_at (line S.named S.any S.format n) s.now at) }
-    ensures stored { (vs : List S.Item) (q : ℕ) → read_at (line S.named S.any S.format n) s.now at ≡ got vs q → out.new ≡ sets out.old place vs }
+) -> Result<(), Bad>
+    requires { place + n < 4294967296 }
+    ensures { Reads (line S.named S.any S.format n) text.old text.new result (λ vs. out.new ≡ sets out.old place vs) }
 {
     if n == 0 {
-        return Ok(at);
+        return Ok(());
     }
-    let p = fixed_at(s, at, S::name())?;
-    items_at::<S>(s, p, n, out, place)
+    fixed_at(text, S::name())?;
+    items_at::<S>(text, n, out, place)
 }
 
 // How many numbers a mode has with its band counts.
@@ -66,51 +64,45 @@ pub(crate) fn part_start(kind: usize, mode: usize) -> usize
 }
 
 // The line of a kind's samples, where there is one, into its part of the arena.
-fn part_at(s: &[u8], at: usize, kind: usize, mode: usize, arena: &mut [i32]) -> Result<usize, Bad>
-    requires { at ≤ length s.now }
-    ensures scanned { result ≡ seen (read_at (line (bytes "samples=") (pos 0) signed (sample_count kind mode)) s.now at) }
-    ensures stored { (vs : List ℤ) (q : ℕ) → read_at (line (bytes "samples=") (pos 0) signed (sample_count kind mode)) s.now at ≡ got vs q → arena.new ≡ sets arena.old (start_of kind) vs }
+fn part_at(text: &mut Text, kind: usize, mode: usize, arena: &mut [i32]) -> Result<(), Bad>
+    ensures { Reads (line (bytes "samples=") (pos 0) signed (sample_count kind mode)) text.old text.new result (λ vs. arena.new ≡ sets arena.old (start_of kind) vs) }
 {
     let n = sample_count(kind, mode);
     let shape = Kind { no: kind };
-    line_at::<Samples>(s, at, n, arena, shape.arena_start())
+    line_at::<Samples>(text, n, arena, shape.arena_start())
 }
 
 // What follows a kind's mode.
 fn parts_at(
-    s: &[u8],
-    at: usize,
+    text: &mut Text,
     kind: usize,
     mode: usize,
     row: &mut [u16],
     arena: &mut [i32],
-) -> Result<usize, Bad>
-    requires { (at ≤ length s.now) × ((mode < 8) × Fresh row.old) }
-    ensures scanned { result ≡ seen (read_at (parts kind mode) s.now at) }
-    ensures stored { (p : List ℕ × (List ℕ × List ℤ)) (q : ℕ) → read_at (parts kind mode) s.now at ≡ got p q → PartsStored kind row.old row.new arena.old arena.new p }
+) -> Result<(), Bad>
+    requires { (mode < 8) × Fresh row.old }
+    ensures { Reads (parts kind mode) text.old text.new result (PartsStored kind row.old row.new arena.old arena.new) }
 {
-    let p = line_at::<Bands>(s, at, params::LISTS[mode], row, 1)?;
+    line_at::<Bands>(text, params::LISTS[mode], row, 1)?;
     let n = number_count(mode, row[1], row[2]);
-    let q = line_at::<Numbers>(s, p, n, row, 3)?;
-    part_at(s, q, kind, mode, arena)
+    line_at::<Numbers>(text, n, row, 3)?;
+    part_at(text, kind, mode, arena)
 }
 
 // A kind's row and samples.
 pub(crate) fn row_at(
-    s: &[u8],
-    at: usize,
+    text: &mut Text,
     kind: usize,
     rows: &mut [u16],
     arena: &mut [i32],
-) -> Result<usize, Bad>
-    requires { (at ≤ length s.now) × (kind < 17) }
-    ensures scanned { result ≡ seen (read_at (row_format kind) s.now at) }
-    ensures stored { (p : Row) (q : ℕ) → read_at (row_format kind) s.now at ≡ got p q → RowStored kind rows.old rows.new arena.old arena.new p }
+) -> Result<(), Bad>
+    requires { kind < 17 }
+    ensures { Reads (row_format kind) text.old text.new result (RowStored kind rows.old rows.new arena.old arena.new) }
 {
     let mut row = [0u16; 128];
-    let (m, p) = mode_at(s, at, kind)?;
-    row[0] = m as u16;
-    let q = parts_at(s, p, kind, m as usize, &mut row, arena)?;
+    let mode = mode_at(text, kind)?;
+    row[0] = mode as u16;
+    parts_at(text, kind, mode as usize, &mut row, arena)?;
     store_all(rows, kind * 128, &row);
-    Ok(q)
+    Ok(())
 }

@@ -1,18 +1,18 @@
 // The three series that a kind's lines hold, each with its name, and how an item of each is read and written.
-ghost use Rattle.std.specs.Prelude.{◌≡◌, List, ℕ, ◌+◌, ◌*◌, ◌≤◌, ◌<◌, length, pos, IfOk};
+ghost use Rattle.std.specs.Prelude.{◌≡◌, List, ℕ, ◌+◌, ◌*◌, ◌≤◌, ◌<◌, length, pos};
 ghost use Rattle.std.proofs.lemmas.List.Edits.{sets};
-ghost use Rattle.record.specs.Format.{Format, seqs, got};
+ghost use Rattle.record.specs.Format.{Format, seqs};
 ghost use Rattle.record.specs.Text.{bytes};
 ghost use Rattle.record.specs.Number.{number, signed};
 ghost use Rattle.record.specs.Half.{half};
 ghost use Rattle.record.specs.Record.{items};
 ghost use Rattle.record.specs.Stored.{Items};
-ghost use Rattle.record.specs.Answers.{read_at, found, seen};
+ghost use Rattle.record.specs.Answers.{Read, Reads};
 
-use crate::Bad;
 use crate::fixed::{BANDS, NUMBERS, SAMPLES};
 use crate::piece::{end_of, half_at, number_at, sample_at};
 use crate::put::{put_count, put_half, put_sample, store};
+use crate::{Bad, Text};
 
 // A series of items: what each is in a row or an arena, and how it stands in a text.
 pub(crate) trait Series {
@@ -30,10 +30,9 @@ pub(crate) trait Series {
         ensures short { length result.now ≤ 8 };
 
     // An item closed by the byte end.
-    fn item_at(s: &[u8], at: usize, end: u8) -> Result<(Self::Item, usize), Bad>
-        requires { (at ≤ length s.now) × ((end < 48) × (0 < end)) }
-        ensures item { result ≡ found (read_at (format end) s.now at) }
-        ensures within { IfOk result (λ x. x.1 ≤ length s.now) };
+    fn item_at(text: &mut Text, end: u8) -> Result<Self::Item, Bad>
+        requires { (end < 48) × (0 < end) }
+        ensures { Read (format end) text.old text.new result };
 
     // An item and the byte behind it.
     fn put_item(out: &mut [u8], at: usize, v: Self::Item, end: u8) -> usize
@@ -65,9 +64,9 @@ impl Series for Bands {
         &BANDS
     }
 
-    fn item_at(s: &[u8], at: usize, end: u8) -> Result<(u16, usize), Bad> {
-        let (v, q) = number_at(s, at, 16, end)?;
-        Ok((v as u16, q))
+    fn item_at(text: &mut Text, end: u8) -> Result<u16, Bad> {
+        let v = number_at(text, 16, end)?;
+        Ok(v as u16)
     }
 
     fn put_item(out: &mut [u8], at: usize, v: u16, end: u8) -> usize {
@@ -88,9 +87,9 @@ impl Series for Numbers {
         &NUMBERS
     }
 
-    fn item_at(s: &[u8], at: usize, end: u8) -> Result<(u16, usize), Bad> {
-        let (v, q) = half_at(s, at, end)?;
-        Ok((v as u16, q))
+    fn item_at(text: &mut Text, end: u8) -> Result<u16, Bad> {
+        let v = half_at(text, end)?;
+        Ok(v as u16)
     }
 
     fn put_item(out: &mut [u8], at: usize, v: u16, end: u8) -> usize {
@@ -111,8 +110,8 @@ impl Series for Samples {
         &SAMPLES
     }
 
-    fn item_at(s: &[u8], at: usize, end: u8) -> Result<(i32, usize), Bad> {
-        sample_at(s, at, end)
+    fn item_at(text: &mut Text, end: u8) -> Result<i32, Bad> {
+        sample_at(text, end)
     }
 
     fn put_item(out: &mut [u8], at: usize, v: i32, end: u8) -> usize {
@@ -122,23 +121,19 @@ impl Series for Samples {
 
 // n items with commas between, stored from a place on.
 pub(crate) fn items_at<S: Series>(
-    s: &[u8],
-    at: usize,
+    text: &mut Text,
     n: usize,
     out: &mut [S::Item],
     place: usize,
-) -> Result<usize, Bad>
-    requires { (at ≤ length s.now) × (place + n < 4294967296) }
-    ensures scanned { result ≡ seen (read_at (seqs S.any (items S.format n)) s.now at) }
-    ensures stored { (vs : List S.Item) (q : ℕ) → read_at (seqs S.any (items S.format n)) s.now at ≡ got vs q → out.new ≡ sets out.old place vs }
+) -> Result<(), Bad>
+    requires { place + n < 4294967296 }
+    ensures { Reads (seqs S.any (items S.format n)) text.old text.new result (λ vs. out.new ≡ sets out.old place vs) }
 {
-    let mut p = at;
     for i in 0..n {
-        let (v, q) = S::item_at(s, p, end_of(n - i - 1))?;
+        let v = S::item_at(text, end_of(n - i - 1))?;
         store(out, place + i, v);
-        p = q;
     }
-    Ok(p)
+    Ok(())
 }
 
 // The items of a list with commas between and a line end behind.

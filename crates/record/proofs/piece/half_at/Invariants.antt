@@ -3,4 +3,4 @@ use Rattle.record.proofs.HalfPlaces.{Digits}
 use Rattle.record.proofs.piece.half_at.Given as goal
 
 abbrev pub invariant-loop-i : goal.invariant-loop-i
-invariant-loop-i l = Digits l.s l.at l.i l.v
+invariant-loop-i l = Digits l.text.bytes.now l.at l.i l.v
