@@ -8,13 +8,9 @@ use std::io::Write;
 
 mod power;
 
-fn long(x: usize) -> u64 {
-    x as u64
-}
-
 // The bits of a float; 2143289344 for a NaN.
 pub(crate) fn bits(x: f32) -> u64 {
-    total::bits(x) as u64
+    u64::from(total::bits(x))
 }
 
 pub(crate) fn word<W: Write>(to: &mut W, n: u64) -> io::Result<()> {
@@ -38,8 +34,8 @@ fn reply<W: Write>(to: &mut W, a: Result<(), BandError>) -> io::Result<()> {
         }
         Err(BandError::Band { channel, band }) => {
             word(to, 7)?;
-            word(to, long(channel))?;
-            word(to, long(band))?;
+            word(to, channel as u64)?;
+            word(to, band as u64)?;
         }
     }
     end_line(to)

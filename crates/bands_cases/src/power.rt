@@ -19,8 +19,8 @@ fn power_line<W: Write>(to: &mut W, b: u32, n: u32) -> io::Result<()> {
         return Ok(());
     }
     to.write_all(b"power")?;
-    word(to, b as u64)?;
-    word(to, n as u64)?;
+    word(to, u64::from(b))?;
+    word(to, u64::from(n))?;
     word(to, bits(bands::power(f32::from_bits(b), n)))?;
     end_line(to)
 }
@@ -31,7 +31,7 @@ fn root_line<W: Write>(to: &mut W, b: u32) -> io::Result<()> {
         return Ok(());
     }
     to.write_all(b"root")?;
-    word(to, b as u64)?;
+    word(to, u64::from(b))?;
     word(to, bits(bands::root32(f32::from_bits(b))))?;
     end_line(to)
 }
