@@ -27,9 +27,9 @@ PLAIN = re.compile(
     r"add|sub|inc|dec|neg|sbb|adc|padd[dq]|psub[dq]"
 )
 # Where roots stand in the library: the last instruction before them that is of another kind, and the first behind them. The chains: the
-# copy of the numbers whose roots they are; the copy of the finished table. The distances: the sum of the two
+# copy of the numbers whose roots they are; the load of a band, of whose ratios the starts are made. The distances: the sum of the two
 # squares; the product that makes a position of a distance.
-PLACES = {"bands::three::chains": ("call memcpy", "call memcpy"), "matrix::lists::fill_bands": ("addps", "mulps")}
+PLACES = {"bands::three::chains": ("call memcpy", "movss"), "matrix::lists::fill_bands": ("addps", "mulps")}
 ALONE = """// The whole root, alone.
 #![tactic(auto)]
 
