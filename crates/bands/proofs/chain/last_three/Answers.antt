@@ -1,7 +1,7 @@
 -- `chain::last_three`: three digits more of a root (`three`). Assumes nothing.
-use Rattle.std.proofs.Common.{◌+◌, ◌-◌, ◌*◌, ◌%◌, ◌^◌, ◌<◌, ◌≤◌, refl, ◌∙◌, subst, zero-le, le_trans, le_of_eq, le_of_lt, arith}
+use Rattle.std.proofs.Common.{◌+◌, ◌-◌, ◌*◌, ◌%◌, ◌^◌, ◌<◌, ◌≤◌, refl, ◌∙◌, subst, zero-le, arith}
 use Rattle.bands.specs.Eights.{Less}
-use Rattle.bands.proofs.ChainRoots.{Told, told, told_some, told_le, told_bit, Leaves, leaves, first_small, second_small, three, shifted, odd}
+use Rattle.bands.proofs.ChainRoots.{Told, told, told_bit, Leaves, leaves, first_small, second_small, three, shifted, odd}
 use Rattle.bands.proofs.chain.last_three.Goals as goal
 use Rattle.bands.proofs.chain.last_three.Goals.{After-digit-x, After-digit-y, After-digit-z, After-less, After-less-a, After-less-b}
 
@@ -38,27 +38,6 @@ z-less c = subst (Less _ _ _) (odd _ (y-small c.before).1) c.less.ensures
 
 z-told : (c : After-digit-z) → Told c.digit-z.result c.args.r c.less.result
 z-told c = told _ _ _ c.digit-z.ensures
-
-pub less-a-requires : goal.less-a-requires
-less-a-requires c = λ h. le_of_lt (told_some _ _ _ (x-told c) h)
-
-pub overflow_sub-a : goal.overflow_sub-a
-overflow_sub-a c = (x-small c).0
-
-pub digit-y-requires : goal.digit-y-requires
-digit-y-requires c = let p = c.requires in (omega (arith, p.0), omega (arith, p.0, (x-small c).1))
-
-pub less-b-requires : goal.less-b-requires
-less-b-requires c = λ h. omega (arith, told_some _ _ _ (y-told c) h)
-
-pub less-requires : goal.less-requires
-less-requires c = λ h. le_trans (le_of_eq (odd _ (y-small c).1)) ((y-small c).2 h)
-
-pub digit-z-requires : goal.digit-z-requires
-digit-z-requires c =
-    let d = c.before in
-    let l = d.before.before in
-    (omega (arith, l.requires.0), omega (arith, l.requires.0, (y-small d).0, told_le _ _ _ _ _ _ (x-told l.before) (z-less c)))
 
 pub returns : goal.returns
 returns c =

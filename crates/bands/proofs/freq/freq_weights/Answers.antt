@@ -1,29 +1,14 @@
 -- `freq::freq_weights`: k by k (`Laid`). Assumes nothing.
-use Rattle.std.proofs.Common.{sym, refl, ◌∙◌, lit<, lit≤, rules}
+use Rattle.std.proofs.Common.{◌∙◌, lit<, lit≤}
 use Rattle.bands.specs.Quant.{channel_of}
 use Rattle.bands.specs.Freqs.{freq_weight}
 use Rattle.bands.proofs.Freqs.{corner_weight, all_corners}
-use Rattle.bands.proofs.Laid.{laid_none, laid_on, laid_all}
+use Rattle.bands.proofs.Laid.{laid_on, laid_all}
 use Rattle.bands.proofs.Tables.{blank}
 use Rattle.bands.proofs.freq.freq_weights.Goals as goal
 
-pub all_bands-bands-requires : goal.all_bands-bands-requires
-all_bands-bands-requires c = (lit≤ tt, lit≤ tt, search rules)
-
 pub chains-requires : goal.chains-requires
 chains-requires c = (lit≤ tt, blank)
-
-pub loop-k-init : goal.loop-k-init
-loop-k-init c = laid_none _ _ _ refl
-
-pub numbers_at-v-requires : goal.numbers_at-v-requires
-numbers_at-v-requires c = (c.loop-k-test.true, refl)
-
-pub slice_bounds-put-end : goal.slice_bounds-put-end
-slice_bounds-put-end c = sym c.loop-k.invariant.long
-
-pub put-requires : goal.put-requires
-put-requires c = (c.loop-k-test.true, c.loop-k.invariant.long, lit≤ tt)
 
 pub loop-k-preserved : goal.loop-k-preserved
 loop-k-preserved c =

@@ -1,30 +1,25 @@
--- `grid::fill_one`: place by place (`Laid`). Assumes nothing.
-use Rattle.std.proofs.Common.{◌*◌, lt_of_le_of_lt, lit<}
+-- `grid::fill_one`: each channel's part is filled (`Fills`). Assumes nothing.
+use Rattle.std.proofs.Common.{◌≡◌, length, get_or, take, drop, ◌++◌, replicate, ◌+◌, ◌-◌, ◌*◌, le_refl, rules}
+use borrow.Rule.Slice.PartMut.{put_mid, mid_of}
+use lib.Ieee.{nan}
 use Rattle.bands.specs.Views.{band_in}
 use Rattle.bands.specs.Grids.{grid_cell, grid_of}
-use Rattle.bands.proofs.Laid.{laid_none, laid_on, laid_all}
-use Rattle.bands.proofs.Cells.{cell_one, area_le, area_pos}
+use Rattle.bands.proofs.Cells.{cell_one, area_pos}
+use Rattle.bands.proofs.Laid.{laid_all}
+use Rattle.bands.proofs.Fills.{fills_laid}
 use Rattle.bands.proofs.grid.fill_one.Goals as goal
-
-pub overflow_mul-area : goal.overflow_mul-area
-overflow_mul-area c = record { fits = lt_of_le_of_lt (area_le c.args.sides.w c.args.sides.h c.args.sides.wide.1 c.args.sides.high.1) (lit< tt) }
-
-pub loop-q-init : goal.loop-q-init
-loop-q-init c = laid_none _ _ _ c.requires
-
-pub put-requires : goal.put-requires
-put-requires c = (c.loop-q-test.true, c.loop-q.invariant.long, area_le c.args.sides.w c.args.sides.h c.args.sides.wide.1 c.args.sides.high.1)
-
-pub loop-q-preserved : goal.loop-q-preserved
-loop-q-preserved c =
-    let a = c.args in
-    let l = c.loop-q in
-    laid_on (grid_cell a.bands.now 1 a.sides.w a.sides.h) l.out _ (a.sides.w * a.sides.h) l.q _ _ _ c.loop-q-test.true l.invariant c.put.ensures
-    (cell_one (band_in a.bands.now 0) a.sides.w a.sides.h _ _) (cell_one (band_in a.bands.now 1) a.sides.w a.sides.h _ _) (cell_one (band_in a.bands.now 2) a.sides.w a.sides.h _ _)
 
 pub returns : goal.returns
 unfolding grid_of
 returns c =
-    let a = c.args in
-    laid_all (grid_cell a.bands.now 1 a.sides.w a.sides.h) (a.sides.w * a.sides.h) c.loop-q.q c.loop-q.out
-    (area_pos a.sides.w a.sides.h a.sides.wide.0 a.sides.high.0) c.loop-q-test.false c.loop-q.invariant
+    let s = c.args.sides.w * c.args.sides.h in
+    let o = c.args.out.now in
+    let l = c.args.bands.now in
+    let x = c.fill.new.self in
+    let y = c.fill-2.new.self in
+    let X : x ≡ replicate (length (take s o)) (get_or l 0 nan) = search rules in
+    let Y : y ≡ replicate (length (mid_of s (s + s - s) (x ++ drop s o))) (get_or l 16 nan) = search rules in
+    let Z : c.fill-3.new.self ≡ replicate (length (mid_of (s + s) (length (put_mid s (s + s - s) (x ++ drop s o) y) - (s + s)) (put_mid s (s + s - s) (x ++ drop s o) y))) (get_or l 32 nan) = search rules in
+    let f = grid_cell l 1 c.args.sides.w c.args.sides.h in
+    laid_all f s s _ (area_pos _ _ c.args.sides.wide.0 c.args.sides.high.0) (le_refl s)
+    (fills_laid o x y c.fill-3.new.self s _ _ _ c.requires X Y Z f (λ j. cell_one (band_in l 0) _ _ _ _) (λ j. cell_one (band_in l 1) _ _ _ _) (λ j. cell_one (band_in l 2) _ _ _ _))

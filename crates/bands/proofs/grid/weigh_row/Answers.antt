@@ -1,18 +1,12 @@
 -- `grid::weigh_row`: place by place (`Laid`). Assumes nothing.
-use Rattle.std.proofs.Common.{ℕ, ◌+◌, ◌*◌, ◌<◌, sym, subst, add_assoc, le_antisymm, arith}
+use Rattle.std.proofs.Common.{◌+◌, ◌*◌, ◌<◌, sym, subst, add_assoc, arith}
 use Rattle.bands.specs.Position.{Cut}
 use Rattle.bands.specs.Views.{band_in}
-use Rattle.bands.specs.Grids.{grid_cell, Laid}
+use Rattle.bands.specs.Grids.{grid_cell}
 use Rattle.bands.proofs.Laid.{laid_next}
 use Rattle.bands.proofs.Asserts.{place_cut}
 use Rattle.bands.proofs.Cells.{row_cell, place_in}
 use Rattle.bands.proofs.grid.weigh_row.Goals as goal
-
-pub returns : goal.returns
-returns c =
-    let a = c.args in
-    let l = c.loop-x in
-    subst (λ (x : ℕ). Laid (grid_cell a.lists.bands.now a.lists.count a.sides.w a.sides.h) (a.sides.w * a.sides.h) (a.y * a.sides.w + x) l.out) (le_antisymm l.invariant.1 c.loop-x-test.false) l.invariant.2
 
 pub weigh_three-requires : goal.weigh_three-requires
 weigh_three-requires c =

@@ -1,10 +1,7 @@
 -- `lanes::digits_eight`: as many digits of each root are to come as turns (`Coming`). Assumes nothing.
 use Rattle.std.proofs.Common.{arith}
-use Rattle.bands.proofs.InLanes.{coming_none, coming_turning, coming_more, coming_all}
+use Rattle.bands.proofs.InLanes.{coming_turning, coming_more, coming_all}
 use Rattle.bands.proofs.lanes.digits_eight.Goals as goal
-
-pub loop-init : goal.loop-init
-loop-init c = coming_none _ _ _ _
 
 pub turn_eight-requires : goal.turn_eight-requires
 turn_eight-requires c = coming_turning _ _ _ _ _ _ _ _ (omega arith) c.requires c.loop.invariant

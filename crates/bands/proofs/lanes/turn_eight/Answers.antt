@@ -1,9 +1,6 @@
 -- `lanes::turn_eight`: each lane takes its turn (`Passing`). Assumes nothing.
-use Rattle.bands.proofs.InLanes.{passing_none, passing_lane, passing_more, passing_all, lane_small, lane_turn}
+use Rattle.bands.proofs.InLanes.{passing_lane, passing_more, passing_all, lane_small, lane_turn}
 use Rattle.bands.proofs.lanes.turn_eight.Goals as goal
-
-pub loop-i-init : goal.loop-i-init
-loop-i-init c = passing_none _ _ _
 
 -- what is compared is small
 pub over-requires : goal.over-requires

@@ -2,7 +2,7 @@
 use Rattle.std.proofs.Common.{◌<◌, length, sym, ◌∙◌, eqb-true, eq-eqb}
 use mathlib.Core.Bool.{false≢true}
 use Rattle.bands.specs.Bands.{at_of}
-use Rattle.bands.proofs.Sound.{none_sound, sounding_one, sounding_more, sounding_stop, sounding_all}
+use Rattle.bands.proofs.Sound.{none_sound, sounding_one, sounding_more, sounding_stop}
 use Rattle.bands.proofs.list.sound_bands.Goals as goal
 
 pub returns-then-is_empty : goal.returns-then-is_empty
@@ -24,6 +24,3 @@ loop-i-preserved c =
     let l = c.args.numbers.now in
     let t : v.i < length l = c.loop-i-test.true in
     sounding_more (at_of l) (length l) v.i v.last c.mult-last.result v.invariant c.mult-last.ensures t (sym c.bars.ensures ∙ c.if-bars.false)
-
-pub returns : goal.returns
-returns c = sounding_all (at_of c.args.numbers.now) _ c.loop-i.i c.loop-i.last c.loop-i-test.false c.loop-i.invariant

@@ -1,21 +1,14 @@
 -- `own_power::finish` is `finished`. Assumes nothing.
-use Rattle.std.proofs.Common.{ℕ, ◌*◌, ◌/◌, ◌^◌, ◌<◌, Bool, false, cond, sym, ap, ◌∙◌, subst, ne_eqb}
+use Rattle.std.proofs.Common.{ℕ, ◌*◌, ◌/◌, ◌^◌, Bool, false, cond, sym, ap, ◌∙◌, ne_eqb}
 use lib.Ieee.{nan, binary32, round}
 use Rattle.bands.specs.Power.{turns}
 use Rattle.bands.specs.Views.{finished}
 use Rattle.bands.proofs.Fields.{no_quotient}
-use Rattle.bands.proofs.Accuracy.{turns_lt}
 use Rattle.bands.proofs.own_power.finish.Goals as goal
 
 pub returns-then-e-eq0 : goal.returns-then-e-eq0
 unfolding finished
 returns-then-e-eq0 c = no_quotient ∙ ap (λ (e : ℕ). finished e c.args.n c.args.y) (sym c.if-e-eq0.true)
-
-pub rounded-requires : goal.rounded-requires
-rounded-requires c =
-    let a = c.args in
-    let p = c.requires in
-    (p.2, p.3, subst (λ (z : ℕ). z / 2 ^ 32 < 277) (sym c.turned.ensures) (turns_lt a.e a.n p.0 p.1))
 
 pub returns : goal.returns
 unfolding finished

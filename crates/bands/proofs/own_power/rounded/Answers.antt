@@ -37,26 +37,11 @@ high-pattern c =
     let k = kept_high d.args.y d.args.i 8 (d.args.i - 23) (eight d.args.i c.if-i-lt24.false) d.requires.1 in
     omega (arith, c.nearest_shift-else-y-lt2147483648.ensures, k, d.requires.2)
 
-pub overflow_cast-result : goal.overflow_cast-result
-overflow_cast-result c = omega (arith, small-pattern c)
-
 pub float_from_bits-result : goal.float_from_bits-result
 float_from_bits-result c = no_nan _ (omega (arith, small-pattern c))
 
-pub overflow_add-result : goal.overflow_add-result
-overflow_add-result c = omega (arith, low-pattern c)
-
-pub overflow_cast-result-then-y-lt2147483648 : goal.overflow_cast-result-then-y-lt2147483648
-overflow_cast-result-then-y-lt2147483648 c = omega (arith, low-pattern c)
-
 pub float_from_bits-result-then-y-lt2147483648 : goal.float_from_bits-result-then-y-lt2147483648
 float_from_bits-result-then-y-lt2147483648 c = no_nan _ (low-pattern c)
-
-pub overflow_add-result-else-y-lt2147483648 : goal.overflow_add-result-else-y-lt2147483648
-overflow_add-result-else-y-lt2147483648 c = omega (arith, high-pattern c)
-
-pub overflow_cast-result-else-y-lt2147483648 : goal.overflow_cast-result-else-y-lt2147483648
-overflow_cast-result-else-y-lt2147483648 c = omega (arith, high-pattern c)
 
 pub float_from_bits-result-else-y-lt2147483648 : goal.float_from_bits-result-else-y-lt2147483648
 float_from_bits-result-else-y-lt2147483648 c = no_nan _ (high-pattern c)

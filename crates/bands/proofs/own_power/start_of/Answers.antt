@@ -1,5 +1,5 @@
 -- `own_power::start_of` meets its contract, by the bits of q. Assumes nothing.
-use Rattle.std.proofs.Common.{◌≡◌, ℕ, ◌*◌, ◌^◌, ◌<◌, not, T, sym, ◌∙◌, subst, ⊎_elim, lt_of_lt_of_le, le_of_lt, arith, lit≤}
+use Rattle.std.proofs.Common.{◌≡◌, ℕ, ◌*◌, ◌^◌, ◌<◌, not, T, sym, ◌∙◌, subst, ⊎_elim, lt_of_lt_of_le, arith, lit≤}
 use lib.Count.{count_leading_zeros}
 use lib.Ieee.{Float, binary32, fits, to_bits}
 use lib.Ieee.Compare.{differs_from_itself}
@@ -41,20 +41,8 @@ module _ (c : Else-bits-ge2139095040) where
   zeros_few : count_leading_zeros 32 b < 32
   zeros_few = (top_of b some_bits (lt_of_lt_of_le few_bits (lit≤ tt))).few
 
-pub overflow_sub-result : goal.overflow_sub-result
-overflow_sub-result c = le_of_lt (zeros_few c.before)
-
-pub overflow_shl-result : goal.overflow_shl-result
-overflow_shl-result c = zeros_few c.before
-
 pub returns-then-bits-lt8388608 : goal.returns-then-bits-lt8388608
 returns-then-bits-lt8388608 c = some _ _ _ (small_is _ (held c.before.before.before.before) (some_bits c.before) c.if-bits-lt8388608.true)
-
-pub overflow_add-result : goal.overflow_add-result
-overflow_add-result c = omega (arith, few_bits c.before)
-
-pub overflow_cast-result-2 : goal.overflow_cast-result-2
-overflow_cast-result-2 c = omega (arith, few_bits c.before)
 
 pub returns : goal.returns
 returns c = some _ _ _ (normal_is _ (held c.before.before.before.before) c.if-bits-lt8388608.false (few_bits c.before))

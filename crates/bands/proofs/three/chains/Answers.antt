@@ -7,17 +7,8 @@ use Rattle.bands.proofs.three.chains.Goals.{In-loop-p}
 inside : (m : In-loop-p) → m.loop-p.p + 8 ≤ 48
 inside m = holding_inside _ _ _ _ _ _ m.put_starts-waiting.ensures _ _ m.loop-p-test.true m.loop-p.invariant
 
-pub put_starts-waiting-requires : goal.put_starts-waiting-requires
-put_starts-waiting-requires c = c.requires
-
 pub loop-p-init : goal.loop-p-init
 loop-p-init c = holding_none _ _ _ _ _ _ c.put_starts-waiting.ensures
-
-pub eight-requires : goal.eight-requires
-eight-requires c = inside c.before.before
-
-pub eight-requires-in-loop-p : goal.eight-requires-in-loop-p
-eight-requires-in-loop-p c = inside c.before.before.before.before
 
 pub put_chains-requires : goal.put_chains-requires
 put_chains-requires c =
@@ -26,12 +17,6 @@ put_chains-requires c =
     let a = c.eight.ensures in
     let v = c.eight-in-loop-p.ensures in
     (eight_rooms _ _ _ _ _ _ _ _ _ (inside m) t a v, eight_near _ _ _ _ _ _ _ _ _ (inside m) t a v, eight_alike _ _ _ _ _ _ _ _ _ (inside m) t a v, m.loop-p.invariant.long)
-
-pub loop-p-smaller : goal.loop-p-smaller
-loop-p-smaller c = omega (arith, c.loop-p-test.true)
-
-pub returns : goal.returns
-returns c = let a = c.before.before.before.before in holding_all _ _ _ _ _ _ a.put_starts-waiting.ensures _ _ a.requires.0 c.loop-p-test.false c.loop-p.invariant
 
 pub loop-p-preserved : goal.loop-p-preserved
 loop-p-preserved c =

@@ -1,17 +1,6 @@
 -- `three::finish_three` meets its contract: each second row, finished. Assumes nothing.
-use Rattle.std.proofs.Common.{ℕ, ap, ◌∙◌}
-use Rattle.bands.specs.Views.{finished}
 use Rattle.bands.proofs.PowerLaws.{second_range}
 use Rattle.bands.proofs.three.finish_three.Goals as goal
-
-pub returns : goal.returns
-returns c =
-    let a = c.args in
-    let s = c.seconds-y.ensures in (
-      c.finish.ensures ∙ ap (λ (y : ℕ). finished a.e.a a.n y) s.0,
-      c.finish-2.ensures ∙ ap (λ (y : ℕ). finished a.e.b a.n y) s.1,
-      c.finish-3.ensures ∙ ap (λ (y : ℕ). finished a.e.c a.n y) s.2,
-    )
 
 pub finish-requires : goal.finish-requires
 finish-requires c = let p = c.requires in let z = second_range _ _ _ _ p.starts.0 c.seconds-y.ensures.0 in (p.few.0, p.few.3, z.0, z.1)

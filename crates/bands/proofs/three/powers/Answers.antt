@@ -1,6 +1,6 @@
 -- `three::powers` meets its contract: the first rows are in the range that the second start from. Assumes nothing.
 use Rattle.std.proofs.Common.{◌≡◌, ℕ, ◌+◌, refl, arith}
-use Rattle.bands.proofs.Tables.{ready_starts, ready_power}
+use Rattle.bands.proofs.Tables.{ready_starts}
 use Rattle.bands.proofs.three.powers.Goals as goal
 
 -- where the chains of the second and the third channel start
@@ -9,16 +9,6 @@ second_chain at = omega arith
 
 third_chain : (at : ℕ) → at + 1 + 34 + 34 ≡ at + 34 + 34 + 1
 third_chain at = omega arith
-
-pub returns : goal.returns
-returns c =
-    let d = c.before.before.before.before.before.before in
-    let t = d.args.t.now in
-    let at = d.args.at in
-    let p = d.requires in
-    let r = c.rows.ensures in
-    let f = c.finish_three.ensures in
-    (ready_power t at _ p.1 refl _ _ _ r.0 f.0, ready_power t (at + 34) _ p.2 (second_chain at) _ _ _ r.1 f.1, ready_power t (at + 34 + 34) _ p.3 (third_chain at) _ _ _ r.2 f.2)
 
 pub finish_three-requires-clause-starts : goal.finish_three-requires-clause-starts
 finish_three-requires-clause-starts c =

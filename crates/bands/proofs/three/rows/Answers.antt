@@ -1,14 +1,10 @@
 -- `three::rows` meets its contract: of each chain what is left of n gives the product of the definition (`Left`). Assumes nothing.
 use Rattle.std.proofs.Common.{◌≡◌, ℕ, ◌+◌, ◌<◌, lt_of_lt_of_le, le_of_lt, arith, pow_pos}
-use lib.Count.{count_leading_zeros}
 use Rattle.bands.specs.Views.{Starts}
-use Rattle.bands.proofs.SetBits.{left_all, left_none, left_less, left_few, unit_pos}
+use Rattle.bands.proofs.SetBits.{left_none, left_less}
 use Rattle.bands.proofs.Tables.{link_on, link_fits}
 use Rattle.bands.proofs.three.rows.Goals as goal
 use Rattle.bands.proofs.three.rows.Goals.{In-loop-left}
-
-few : (d : In-loop-left) → count_leading_zeros 32 d.loop-left.left < 32
-few d = left_few _ _ _ _ _ d.loop-left.invariant.0 d.loop-left-test.true
 
 start_pos : (y : ℕ) → Starts y → 0 < y
 start_pos y s = lt_of_lt_of_le (pow_pos 30) s.0
@@ -22,15 +18,6 @@ in_third at step j = omega arith
 
 in_first : (at j : ℕ) → at + 1 + j ≡ at + (1 + j)
 in_first at j = omega arith
-
-pub loop-left-init : goal.loop-left-init
-loop-left-init c = let N = c.ranges.n.fits in (left_all _ _ _ N, left_all _ _ _ N, left_all _ _ _ N)
-
-pub overflow_cast-k : goal.overflow_cast-k
-overflow_cast-k c = omega (arith, few c)
-
-pub nonzero_rem-left : goal.nonzero_rem-left
-nonzero_rem-left c = unit_pos (count_leading_zeros 32 c.loop-left.left)
 
 pub loop-left-smaller : goal.loop-left-smaller
 loop-left-smaller c = left_less _ _ _ _ _ c.loop-left.invariant.0 c.loop-left-test.true

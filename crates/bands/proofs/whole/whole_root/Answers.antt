@@ -1,10 +1,7 @@
 -- `whole_root` is `whole_root`: each turn leaves one digit less to come (`Down`). Assumes nothing.
 use Rattle.std.proofs.Common.{◌^◌, ltb, refl, arith, lit<, lit≤}
-use Rattle.bands.proofs.BringDown.{brings, fourfold, byte, turn, fewer, down_start, down_end}
+use Rattle.bands.proofs.BringDown.{brings, fourfold, byte, turn, fewer, down_end}
 use Rattle.bands.proofs.whole.whole_root.Goals as goal
-
-pub loop-init : goal.loop-init
-loop-init c = down_start _ c.ranges.x.fits
 
 pub loop-preserved : goal.loop-preserved
 loop-preserved c =
