@@ -22,6 +22,7 @@ impl From<JpegError> for Said {
 }
 
 // Says where the 64 JPEG values of a channel stand in the samples, or why there are none.
+#[tactic(auto, using(dequant::proofs::JpegLaws::done_says))]
 pub fn dequant_jpeg_quant_values(
     rows: &[u16],
     samples: &[i32],

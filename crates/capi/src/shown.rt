@@ -15,6 +15,7 @@ fn arena_no(order: u32) -> u64
 }
 
 // The part of a channel, in arenas of lengths s and t.
+#[tactic(auto, using(dequant::proofs::Parts::is_found, dequant::proofs::Parts::span_end), unfolding(crate::specs::Parts::lookup_reply))]
 fn said_part(s: usize, t: usize, kind: usize, channel: usize, order: u32) -> Said
     ensures { result ≡ said_of (lookup_reply s t kind channel order) }
 {
