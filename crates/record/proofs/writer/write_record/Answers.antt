@@ -6,8 +6,8 @@ use Rattle.record.proofs.SetStores.{write_lent, write_row, checked, write_done}
 use borrow.Author.Rules.{rules}
 use Rattle.record.proofs.writer.write_record.Goals as goal
 
-pub write_allowed-requires : goal.write_allowed-requires
-write_allowed-requires c = let a = c.args in checked a.rows.now a.samples.now a.buffer.now _ c.is_lent.ensures (search rules) c.in_ok-check_rows.ensures c.type_inv.rows
+pub invariant_of-description : goal.invariant_of-description
+invariant_of-description c = let a = c.args in record { checked = checked a.rows.now a.samples.now a.buffer.now _ c.is_lent.ensures (search rules) c.in_ok-check_rows.ensures c.type_inv.rows }
 
 pub returns-then-is_lent : goal.returns-then-is_lent
 returns-then-is_lent c = let a = c.args in let o = write_lent a.rows.now a.samples.now a.buffer.now _ c.is_lent.ensures (search rules) in record { answer = o.0; buffer = o.1 }
