@@ -1,5 +1,5 @@
 -- The positions of eight columns: each lane's root is a distance. Assumes nothing.
-use Rattle.std.proofs.Common.{◌≡◌, ℕ, ◌+◌, ◌*◌, ◌^◌, ◌<◌, ◌≤◌, min, ◌⊎◌, List, length, get_or, set, replicate, sym, refl, ap, ◌∙◌, subst, inl, inr, le_trans, le_of_eq, lt_of_lt_of_le, not-suc-le-zero, lt_of_le_of_lt, arith, length-set, get_or-set_other, get_or-set_same}
+use Rattle.std.proofs.Common.{◌≡◌, ℕ, ◌+◌, ◌-◌, ◌*◌, ◌^◌, ◌<◌, ◌≤◌, min, ◌⊎◌, List, length, get_or, set, replicate, sym, refl, ap, ◌∙◌, subst, inl, inr, le_trans, le_of_eq, lt_of_lt_of_le, not-suc-le-zero, lt_of_le_of_lt, arith, length-set, get_or-set_other, get_or-set_same}
 use native.Mathlib.Nat.{min-le_right, min-eq_left}
 use lib.ListN.{length-replicate, get_or-replicate}
 use lib.Ieee.{Float, nan, binary32, to_bits, of_bits, mul}
@@ -13,6 +13,10 @@ use Rattle.bands.specs.Grids.{Columns}
 use Rattle.bands.proofs.ChainLists.{split_lt}
 use Rattle.bands.proofs.LaneRoots.{lane_raised, raised_root}
 use Rattle.bands.proofs.Distance.{sum_finite, sum_normal}
+
+-- eight columns of a grid, by its sides
+pub inside : (x y w h : ℕ) → x + 8 ≤ 256 → y < h → 2 ≤ w → w ≤ 256 → 2 ≤ h → h ≤ 256 → Inside x y (w - 1) (h - 1)
+inside x y w h a b c d e f = record { near = omega arith; wide = omega arith; not_wider = omega arith; low = omega arith; high = omega arith; not_higher = omega arith }
 
 -- what lane i is the root of
 abbrev numbers : ℕ → ℕ → ℕ → ℕ → ℕ → ℕ

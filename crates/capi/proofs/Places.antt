@@ -1,15 +1,13 @@
 -- Where a part stands: lookup's answer by its tests.
 -- Assumes nothing.
-use mathlib.Core.Path.{◌≡◌, refl, sym, ap, ◌∙◌}
+use mathlib.Core.Path.{◌≡◌, sym, ap, ◌∙◌}
 use mathlib.Core.Bool.{Bool, true, false, cond, ◌&&◌}
-use mathlib.Core.List.{List, [], ◌∷◌}
+use mathlib.Core.List.{[], ◌∷◌}
 use Prim.Native.Nat.{ℕ, ◌+◌, ◌*◌, ◌≤◌, ◌<◌}
-use borrow.Author.Tests.{le-leb, lt-leb, lt-ltb, ne_eqb}
-use lib.Dec.{ltb, eqb}
+use borrow.Author.Tests.{le-leb, lt-leb}
 use Rattle.transform.specs.Kinds.{area_of, start_of}
 use Rattle.dequant.specs.Shown.{found}
-use Rattle.dequant.specs.declared.shown.Order.TheVariants.{Unnamed, Straight, Transposed}
-use Rattle.capi.specs.Parts.{arena_of, arena_no, part_reply, lookup_reply}
+use Rattle.capi.specs.Parts.{arena_no, part_reply, lookup_reply}
 
 module _ (s t k c o : ℕ) where
   pub unknown_order : 2 < o → 1 ∷ [] ≡ lookup_reply s t k c o

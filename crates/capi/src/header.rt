@@ -5,19 +5,20 @@ ghost use Rattle.capi.specs.Reply.{returned, held, kept};
 ghost use Rattle.capi.specs.Said.{said_of};
 
 use crate::reply::{Said, made, say};
-use params::Reading;
+use params::{HeaderError, Reading, Stop};
 
+// The reply of reading a header.
 impl From<Reading> for Said {
     ghost from_gives = { λ found said. said ≡ said_of (reply_of found) };
 
     fn from(found: Reading) -> Said {
         match found {
-            Reading::Done { next } => made(0, next, 0, 0),
-            Reading::Lent => made(1, 0, 0, 0),
-            Reading::Short { kind, bit, lacks } => made(2, kind as u64, bit, lacks),
-            Reading::Mode { kind, bit } => made(3, kind as u64, bit, 0),
-            Reading::Float { kind, bit } => made(4, kind as u64, bit, 0),
-            Reading::Raw { kind, next } => made(5, kind as u64, next, 0),
+            Ok(Stop::Done { next }) => made(0, next, 0, 0),
+            Ok(Stop::Raw { kind, next }) => made(5, kind as u64, next, 0),
+            Err(HeaderError::Lent) => made(1, 0, 0, 0),
+            Err(HeaderError::Short { kind, bit, lacks }) => made(2, kind as u64, bit, lacks),
+            Err(HeaderError::Mode { kind, bit }) => made(3, kind as u64, bit, 0),
+            Err(HeaderError::Float { kind, bit }) => made(4, kind as u64, bit, 0),
         }
     }
 }

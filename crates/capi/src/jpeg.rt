@@ -8,6 +8,7 @@ ghost use Rattle.capi.specs.Said.{said_of};
 use crate::reply::{Said, made, say};
 use dequant::JpegError;
 
+// Why there are no JPEG values, as a reply.
 impl From<JpegError> for Said {
     ghost from_gives = { λ why said. said ≡ said_of (jpeg_numbers (Err why)) };
 

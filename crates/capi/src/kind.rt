@@ -7,27 +7,32 @@ ghost use Rattle.capi.specs.Said.{said_of};
 ghost use Rattle.capi.specs.Reply.{returned, held, kept};
 
 use crate::reply::{Said, made, say};
-use matrix::Expanded;
+use matrix::{ExpandError, Expanded};
 
+// The reply of expanding, one kind or all.
 impl From<Expanded> for Said {
     ghost from_gives = { λ found said. said ≡ said_of (reply_of found) };
 
     fn from(found: Expanded) -> Said {
         match found {
-            Expanded::Done => made(0, 0, 0, 0),
-            Expanded::Lent => made(1, 0, 0, 0),
-            Expanded::Row { kind } => made(6, kind as u64, 0, 0),
-            Expanded::Band {
-                kind,
-                channel,
-                band,
-            } => made(7, kind as u64, channel as u64, band as u64),
-            Expanded::Weight {
-                kind,
-                channel,
-                place,
-            } => made(8, kind as u64, channel as u64, place as u64),
-            Expanded::Denom { kind } => made(12, kind as u64, 0, 0),
+            Ok(()) => made(0, 0, 0, 0),
+            Err(ExpandError::Lent) => made(1, 0, 0, 0),
+            Err(ExpandError::Row { kind }) => made(6, kind as u64, 0, 0),
+            Err(
+                ExpandError::Band {
+                    kind,
+                    channel,
+                    band,
+                },
+            ) => made(7, kind as u64, channel as u64, band as u64),
+            Err(
+                ExpandError::Weight {
+                    kind,
+                    channel,
+                    place,
+                },
+            ) => made(8, kind as u64, channel as u64, place as u64),
+            Err(ExpandError::Denom { kind }) => made(12, kind as u64, 0, 0),
         }
     }
 }

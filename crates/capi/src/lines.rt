@@ -5,30 +5,32 @@ ghost use Rattle.capi.specs.Reply.{returned, held, kept};
 ghost use Rattle.capi.specs.Said.{said_of};
 
 use crate::reply::{Said, made, say};
-use record::{Taken, Written};
+use record::{ReadError, Taken, WriteError, Written};
 
+// The reply of writing a record.
 impl From<Written> for Said {
     ghost from_gives = { λ found said. said ≡ said_of (written_reply found) };
 
     fn from(found: Written) -> Said {
         match found {
-            Written::Done { length } => made(0, length as u64, 0, 0),
-            Written::Lent => made(1, 0, 0, 0),
-            Written::Row { kind } => made(6, kind as u64, 0, 0),
-            Written::Room { length } => made(9, length as u64, 0, 0),
+            Ok(length) => made(0, length as u64, 0, 0),
+            Err(WriteError::Lent) => made(1, 0, 0, 0),
+            Err(WriteError::Row { kind }) => made(6, kind as u64, 0, 0),
+            Err(WriteError::Room { length }) => made(9, length as u64, 0, 0),
         }
     }
 }
 
+// The reply of reading one.
 impl From<Taken> for Said {
     ghost from_gives = { λ found said. said ≡ said_of (taken_reply found) };
 
     fn from(found: Taken) -> Said {
         match found {
-            Taken::Done => made(0, 0, 0, 0),
-            Taken::Lent => made(1, 0, 0, 0),
-            Taken::Room { length } => made(9, length as u64, 0, 0),
-            Taken::Text { length } => made(10, length as u64, 0, 0),
+            Ok(()) => made(0, 0, 0, 0),
+            Err(ReadError::Lent) => made(1, 0, 0, 0),
+            Err(ReadError::Room { length }) => made(9, length as u64, 0, 0),
+            Err(ReadError::Text { length }) => made(10, length as u64, 0, 0),
         }
     }
 }

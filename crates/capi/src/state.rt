@@ -14,7 +14,7 @@ const TOO_MANY: usize = 18;
 
 // The state in 18 bytes. In another number of bytes there is none: the one that is given has more kinds than there are, so that every call
 // refuses it.
-#[tactic(auto, using(crate::proofs::StateBytes::other_state, crate::proofs::StateBytes::in_small))]
+#[tactic(auto, using(crate::proofs::StateBytes::other_state))]
 pub(crate) fn state_of(bytes: &[u8]) -> State
     ensures state { result ≡ state_in bytes.now }
     ensures small { Small result }

@@ -142,6 +142,7 @@ pub(crate) fn items_at<S: Series>(
 }
 
 // The items of a list with commas between and a line end behind.
+#[tactic(auto, using(crate::proofs::ItemStores::wrote_on))]
 pub(crate) fn put_items<S: Series>(src: &[S::Item], out: &mut [u8], at: usize) -> usize
     requires { at + 4294967296 * length src.now < 4611686018427387904 }
     ensures { Items S.any S.format src.now out.old out.new at result }

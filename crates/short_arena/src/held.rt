@@ -24,6 +24,7 @@ impl State {
     }
 
     // One kind more.
+    #[tactic(auto, using(crate::proofs::States::state_more))]
     pub(crate) fn add(&mut self, kind: usize)
         requires { (self.old.count < 17) × (all_zero (drop self.old.count self.old.kinds) ≡ true) }
         ensures { self.new ≡ state_of (held_of self.old ++ kind ∷ []) }

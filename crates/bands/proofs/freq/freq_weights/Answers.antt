@@ -4,10 +4,14 @@ use Rattle.bands.specs.Quant.{channel_of}
 use Rattle.bands.specs.Freqs.{freq_weight}
 use Rattle.bands.proofs.Freqs.{corner_weight, all_corners}
 use Rattle.bands.proofs.Laid.{laid_none, laid_on, laid_all}
+use Rattle.bands.proofs.Tables.{blank}
 use Rattle.bands.proofs.freq.freq_weights.Goals as goal
 
 pub all_bands-bands-requires : goal.all_bands-bands-requires
 all_bands-bands-requires c = (lit≤ tt, lit≤ tt, search rules)
+
+pub chains-requires : goal.chains-requires
+chains-requires c = (lit≤ tt, blank)
 
 pub loop-k-init : goal.loop-k-init
 loop-k-init c = laid_none _ _ _ refl

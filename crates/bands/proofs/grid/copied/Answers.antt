@@ -16,72 +16,71 @@ known x y w h e Y X W =
     let u = lt_trans X v in
     (place_in x y w w v u, place_in y x w w u v, area_le w w W W)
 
-pub returns-then-w-h : goal.returns-then-w-h
-returns-then-w-h c = (zero-le, copied_none _ _ _ c.args.out.now)
+pub returns-then-sides : goal.returns-then-sides
+returns-then-sides c = (zero-le, copied_none _ _ _ c.args.out.now)
 
 pub overflow_mul-area : goal.overflow_mul-area
-overflow_mul-area c = omega (arith, area_le c.args.w c.args.w c.requires.1 c.requires.1)
+overflow_mul-area c = omega (arith, area_le c.args.sides.w c.args.sides.w c.args.sides.wide.1 c.args.sides.wide.1)
 
 pub loop-x-init : goal.loop-x-init
-loop-x-init c = (zero-le, subst (λ (n : ℕ). length c.args.out.now ≡ 3 * (c.args.w * n)) (sym c.if-w-h.false) c.requires.3, copied_none _ _ _ _)
+loop-x-init c = (subst (λ (n : ℕ). length c.args.out.now ≡ 3 * (c.args.sides.w * n)) (sym c.if-sides.false) c.requires.1, copied_none _ _ _ _)
 
 pub overflow_mul-q : goal.overflow_mul-q
-overflow_mul-q c = omega (arith, known _ _ _ _ c.if-w-h.false c.requires.2 c.loop-x-test.true c.requires.1)
+overflow_mul-q c = omega (arith, known _ _ _ _ c.if-sides.false c.requires.0 c.loop-x-test.true c.args.sides.wide.1)
 
 pub overflow_add-q : goal.overflow_add-q
-overflow_add-q c = omega (arith, known _ _ _ _ c.if-w-h.false c.requires.2 c.loop-x-test.true c.requires.1)
+overflow_add-q c = omega (arith, known _ _ _ _ c.if-sides.false c.requires.0 c.loop-x-test.true c.args.sides.wide.1)
 
 pub offset_bounds-out-q : goal.offset_bounds-out-q
-offset_bounds-out-q c = omega (arith, known _ _ _ _ c.if-w-h.false c.requires.2 c.loop-x-test.true c.requires.1)
+offset_bounds-out-q c = omega (arith, known _ _ _ _ c.if-sides.false c.requires.0 c.loop-x-test.true c.args.sides.wide.1)
 
 pub bounds-out-q : goal.bounds-out-q
-bounds-out-q c = omega (arith, known _ _ _ _ c.if-w-h.false c.requires.2 c.loop-x-test.true c.requires.1, c.loop-x.invariant.1)
+bounds-out-q c = omega (arith, known _ _ _ _ c.if-sides.false c.requires.0 c.loop-x-test.true c.args.sides.wide.1, c.loop-x.invariant.0)
 
 pub overflow_add-v : goal.overflow_add-v
-overflow_add-v c = omega (arith, known _ _ _ _ c.if-w-h.false c.requires.2 c.loop-x-test.true c.requires.1)
+overflow_add-v c = omega (arith, known _ _ _ _ c.if-sides.false c.requires.0 c.loop-x-test.true c.args.sides.wide.1)
 
 pub offset_bounds-out-area : goal.offset_bounds-out-area
-offset_bounds-out-area c = omega (arith, known _ _ _ _ c.if-w-h.false c.requires.2 c.loop-x-test.true c.requires.1)
+offset_bounds-out-area c = omega (arith, known _ _ _ _ c.if-sides.false c.requires.0 c.loop-x-test.true c.args.sides.wide.1)
 
 pub bounds-out-area : goal.bounds-out-area
-bounds-out-area c = omega (arith, known _ _ _ _ c.if-w-h.false c.requires.2 c.loop-x-test.true c.requires.1, c.loop-x.invariant.1)
+bounds-out-area c = omega (arith, known _ _ _ _ c.if-sides.false c.requires.0 c.loop-x-test.true c.args.sides.wide.1, c.loop-x.invariant.0)
 
 pub overflow_add-v-in-loop-x : goal.overflow_add-v-in-loop-x
-overflow_add-v-in-loop-x c = omega (arith, known _ _ _ _ c.if-w-h.false c.requires.2 c.loop-x-test.true c.requires.1)
+overflow_add-v-in-loop-x c = omega (arith, known _ _ _ _ c.if-sides.false c.requires.0 c.loop-x-test.true c.args.sides.wide.1)
 
 pub overflow_add-v-in-loop-x-2 : goal.overflow_add-v-in-loop-x-2
-overflow_add-v-in-loop-x-2 c = omega (arith, known _ _ _ _ c.if-w-h.false c.requires.2 c.loop-x-test.true c.requires.1)
+overflow_add-v-in-loop-x-2 c = omega (arith, known _ _ _ _ c.if-sides.false c.requires.0 c.loop-x-test.true c.args.sides.wide.1)
 
 pub offset_bounds-out-area-in-loop-x : goal.offset_bounds-out-area-in-loop-x
-offset_bounds-out-area-in-loop-x c = omega (arith, known _ _ _ _ c.if-w-h.false c.requires.2 c.loop-x-test.true c.requires.1)
+offset_bounds-out-area-in-loop-x c = omega (arith, known _ _ _ _ c.if-sides.false c.requires.0 c.loop-x-test.true c.args.sides.wide.1)
 
 pub bounds-out-area-in-loop-x : goal.bounds-out-area-in-loop-x
-bounds-out-area-in-loop-x c = omega (arith, known _ _ _ _ c.if-w-h.false c.requires.2 c.loop-x-test.true c.requires.1, c.loop-x.invariant.1)
+bounds-out-area-in-loop-x c = omega (arith, known _ _ _ _ c.if-sides.false c.requires.0 c.loop-x-test.true c.args.sides.wide.1, c.loop-x.invariant.0)
 
 pub overflow_mul-row : goal.overflow_mul-row
-overflow_mul-row c = omega (arith, known _ _ _ _ c.if-w-h.false c.requires.2 c.loop-x-test.true c.requires.1)
+overflow_mul-row c = omega (arith, known _ _ _ _ c.if-sides.false c.requires.0 c.loop-x-test.true c.args.sides.wide.1)
 
 pub overflow_add-row : goal.overflow_add-row
-overflow_add-row c = omega (arith, known _ _ _ _ c.if-w-h.false c.requires.2 c.loop-x-test.true c.requires.1)
+overflow_add-row c = omega (arith, known _ _ _ _ c.if-sides.false c.requires.0 c.loop-x-test.true c.args.sides.wide.1)
 
 pub put-requires : goal.put-requires
-put-requires c = let k = known _ _ _ _ c.if-w-h.false c.requires.2 c.loop-x-test.true c.requires.1 in (k.1, c.loop-x.invariant.1, k.2)
+put-requires c = let k = known _ _ _ _ c.if-sides.false c.requires.0 c.loop-x-test.true c.args.sides.wide.1 in (k.1, c.loop-x.invariant.0, k.2)
 
 pub loop-x-preserved : goal.loop-x-preserved
 loop-x-preserved c =
     let a = c.args in
     let l = c.loop-x in
     let e = c.put.ensures in
-    let k = known _ _ _ _ c.if-w-h.false c.requires.2 c.loop-x-test.true c.requires.1 in (
-      omega (arith, c.loop-x-test.true),
-      ap length e ∙ put_length l.out (a.w * a.w) (a.y * a.w + l.x) _ _ _ k.1 l.invariant.1,
-      copied_more a.w a.y l.x _ l.out _ c.loop-x-test.true (inside _ _ _ c.if-w-h.false c.requires.2) a.h c.if-w-h.false e l.invariant.2,
+    let k = known _ _ _ _ c.if-sides.false c.requires.0 c.loop-x-test.true c.args.sides.wide.1 in (
+      ap length e ∙ put_length l.out (a.sides.w * a.sides.w) (a.y * a.sides.w + l.x) _ _ _ k.1 l.invariant.0,
+      copied_more a.sides.w a.y l.x _ l.out _ c.loop-x-test.true (inside _ _ _ c.if-sides.false c.requires.0) a.sides.h c.if-sides.false e l.invariant.1,
     )
 
 pub shape_of-out : goal.shape_of-out
-shape_of-out c = let e = ap (λ (n : ℕ). 3 * (c.args.w * n)) c.if-w-h.false in search (rules, c.loop-x.invariant.1 ∙ e ∙ sym c.requires.3)
+shape_of-out c = let e = ap (λ (n : ℕ). 3 * (c.args.sides.w * n)) c.if-sides.false in search (rules, c.loop-x.invariant.0 ∙ e ∙ sym c.requires.1)
 
 pub returns : goal.returns
 returns c =
     let a = c.args in
-    (le_of_lt (subst (λ (n : ℕ). a.y < n) (sym c.if-w-h.false) c.requires.2), copied_all a.w a.h a.y c.loop-x.x _ _ c.loop-x.invariant.0 c.loop-x-test.false c.loop-x.invariant.2)
+    (le_of_lt (subst (λ (n : ℕ). a.y < n) (sym c.if-sides.false) c.requires.0), copied_all a.sides.w a.sides.h a.y c.loop-x.x _ _ c.loop-x.auto.x-end c.loop-x-test.false c.loop-x.invariant.1)

@@ -6,4 +6,4 @@ use Rattle.bands.proofs.grid.fill.Goals as goal
 pub returns-then-count-eq1 : goal.returns-then-count-eq1
 returns-then-count-eq1 c =
     let a = c.args in
-    subst (λ (n : ℕ). c.fill_one.new.out ≡ grid_of a.bands.now n a.w a.h) (sym c.if-count-eq1.true) c.fill_one.ensures
+    subst (λ (n : ℕ). c.fill_one.new.out ≡ grid_of a.bands.now n a.sides.w a.sides.h) (sym c.if-count-eq1.true) c.fill_one.ensures

@@ -1,13 +1,9 @@
--- `bands::bars` is `barred`. Assumes nothing.
+-- `bands::bars` is `barred`: the second of its tests. Assumes nothing.
 use Rattle.std.proofs.Common.{Bool, false, ◌||◌, sym, ap}
-use lib.Ieee.{inf, le, div, of_bits}
+use lib.Ieee.{inf, le, of_bits}
 use Rattle.bands.specs.Bands.{barred}
 use Rattle.bands.proofs.list.bars.Goals as goal
 
-pub returns-then-b : goal.returns-then-b
+pub returns-else-b : goal.returns-else-b
 unfolding barred of_bits
-returns-then-b c = sym (ap (λ (t : Bool). t || le (inf false) c.args.b) c.if-b.true)
-
-pub returns : goal.returns
-unfolding barred of_bits div
-returns c = sym (ap (λ (t : Bool). t || le (inf false) c.args.b) c.if-b.false)
+returns-else-b c = sym (ap (λ (t : Bool). t || le (inf false) c.args.b) c.if-b.false)

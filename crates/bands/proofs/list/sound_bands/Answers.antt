@@ -1,14 +1,15 @@
 -- `list::sound_bands`: band after band (`Sounding`). Assumes nothing.
-use Rattle.std.proofs.Common.{◌<◌, length, sym, ◌∙◌}
+use Rattle.std.proofs.Common.{◌<◌, length, sym, ◌∙◌, eqb-true, eq-eqb}
+use mathlib.Core.Bool.{false≢true}
 use Rattle.bands.specs.Bands.{at_of}
 use Rattle.bands.proofs.Sound.{none_sound, sounding_one, sounding_more, sounding_stop, sounding_all}
 use Rattle.bands.proofs.list.sound_bands.Goals as goal
 
-pub returns-then-numbers-eq0 : goal.returns-then-numbers-eq0
-returns-then-numbers-eq0 c = none_sound (at_of c.args.numbers.now) _ c.if-numbers-eq0.true
+pub returns-then-is_empty : goal.returns-then-is_empty
+returns-then-is_empty c = none_sound (at_of c.args.numbers.now) _ (eqb-true _ _ (sym c.is_empty.ensures ∙ c.if-is_empty.true))
 
 pub loop-i-init : goal.loop-i-init
-loop-i-init c = sounding_one (at_of c.args.numbers.now) _ c.if-numbers-eq0.false
+loop-i-init c = sounding_one (at_of c.args.numbers.now) _ (λ e. false≢true (sym c.if-is_empty.false ∙ c.is_empty.ensures ∙ eq-eqb _ _ e))
 
 pub returns-then-bars : goal.returns-then-bars
 returns-then-bars c =

@@ -4,7 +4,4 @@ use Rattle.bands.proofs.QuantLaws.{table_is}
 use Rattle.bands.proofs.quant.weigh_all.Goals as goal
 
 pub returns : goal.returns
-returns c =
-    let d = c.before.before.before.before.before in
-    let s = d.before.before.before in
-    c.fill.ensures ∙ table_is s.args.numbers.now s.args.count s.args.w s.args.h _ _ s.requires.1 d.all_bands-bands.ensures
+returns c = c.fill.ensures ∙ table_is c.args.numbers.now c.args.count c.args.w c.args.h _ _ c.requires.1 c.all_bands-bands.ensures

@@ -1,19 +1,14 @@
 -- `three::chains`: every ratio has its chain, or waits for it among those from p on (`Holding`). Assumes nothing.
-use Rattle.std.proofs.Common.{ℕ, ◌+◌, ◌≤◌, replicate, arith}
-use lib.ListN.{length-replicate, get_or-replicate}
-use Rattle.bands.specs.ChainTable.{Blank}
+use Rattle.std.proofs.Common.{◌+◌, ◌≤◌, arith}
 use Rattle.bands.proofs.Tables.{holding_none, holding_more, holding_all, holding_inside, eight_near, eight_alike, eight_rooms}
 use Rattle.bands.proofs.three.chains.Goals as goal
 use Rattle.bands.proofs.three.chains.Goals.{In-loop-p}
-
-blank : Blank (replicate 1632 2147483648)
-blank = record { long = length-replicate {A = ℕ} 1632 2147483648; each = λ k h. get_or-replicate {A = ℕ} 1632 k 2147483648 0 h }
 
 inside : (m : In-loop-p) → m.loop-p.p + 8 ≤ 48
 inside m = holding_inside _ _ _ _ _ _ m.put_starts-waiting.ensures _ _ m.loop-p-test.true m.loop-p.invariant
 
 pub put_starts-waiting-requires : goal.put_starts-waiting-requires
-put_starts-waiting-requires c = (c.requires, blank)
+put_starts-waiting-requires c = c.requires
 
 pub loop-p-init : goal.loop-p-init
 loop-p-init c = holding_none _ _ _ _ _ _ c.put_starts-waiting.ensures
@@ -36,7 +31,7 @@ pub loop-p-smaller : goal.loop-p-smaller
 loop-p-smaller c = omega (arith, c.loop-p-test.true)
 
 pub returns : goal.returns
-returns c = let a = c.before.before.before.before in holding_all _ _ _ _ _ _ a.put_starts-waiting.ensures _ _ a.requires c.loop-p-test.false c.loop-p.invariant
+returns c = let a = c.before.before.before.before in holding_all _ _ _ _ _ _ a.put_starts-waiting.ensures _ _ a.requires.0 c.loop-p-test.false c.loop-p.invariant
 
 pub loop-p-preserved : goal.loop-p-preserved
 loop-p-preserved c =
@@ -46,5 +41,5 @@ loop-p-preserved c =
 pub returns-2 : goal.returns-2
 returns-2 c =
     let t = c.put_starts-waiting.ensures in
-    holding_all _ _ _ _ _ _ t _ (c.loop-p.p + 8) c.requires (omega arith)
+    holding_all _ _ _ _ _ _ t _ (c.loop-p.p + 8) c.requires.0 (omega arith)
     (holding_more _ _ _ _ _ _ t _ _ _ _ _ (holding_inside _ _ _ _ _ _ t _ _ c.loop-p-test.true c.loop-p.invariant) c.eight.ensures c.eight-in-loop-p.ensures c.put_chains.ensures c.loop-p.invariant)

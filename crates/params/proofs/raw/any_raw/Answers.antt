@@ -1,23 +1,14 @@
--- `raw::any_raw` meets its contract. The loop's invariant: no kind before this one is raw. Assumes nothing.
-use mathlib.Core.Path.{sym, ap, ◌∙◌}
-use mathlib.Core.Bool.{not}
+-- `raw::any_raw` meets its contract: what `any` says of the kinds is `any_raw`. Assumes nothing.
+use mathlib.Core.Path.{refl, ◌∙◌}
 use borrow.Author.Rules.{rules}
-use Rattle.transform.proofs.FirstLaws.{before_none, before_more}
-use Rattle.params.proofs.RawLaws.{plain, raw_at, raw_none}
+use borrow.Author.Tests.{tests}
+use Rattle.std.proofs.lemmas.Iterator.{YieldsList-from_range}
+use Rattle.std.proofs.lemmas.Iterator.Search.{any_from_yields_List}
+use Rattle.params.specs.Raw.{is_raw}
+use Rattle.params.proofs.RawLaws.{any_is}
 use Rattle.params.proofs.raw.any_raw.Goals as goal
 
-pub loop-kind-init : goal.loop-kind-init
-loop-kind-init c = before_none _
-
-pub returns-then-is_raw : goal.returns-then-is_raw
-returns-then-is_raw c =
-    let l = c.loop-kind in
-    raw_at c.args.rows.now l.kind l.invariant (search rules) (sym c.is_raw.ensures ∙ c.if-is_raw.true)
-
-pub loop-kind-preserved : goal.loop-kind-preserved
-loop-kind-preserved c =
-    let l = c.loop-kind in
-    before_more (plain c.args.rows.now) l.kind l.invariant (ap not (sym c.is_raw.ensures ∙ c.if-is_raw.false))
-
 pub returns : goal.returns
-returns c = raw_none c.args.rows.now c.loop-kind.kind c.loop-kind.invariant (search rules) (search rules)
+returns c =
+    let rows = c.args.rows.now in
+    any_from_yields_List (is_raw rows) _ _ _ c.any.ensures.ran (YieldsList-from_range 0 17 17 refl refl) (λ x b q k. search (rules, tests)) ∙ any_is rows

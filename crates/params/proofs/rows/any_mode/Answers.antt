@@ -1,17 +1,18 @@
--- `params::rows::any_mode` meets its contract. The loop's invariant: all modes before this kind are 0. Assumes nothing.
-use mathlib.Core.Path.{sym}
+-- `params::rows::any_mode` meets its contract: what `any` says of the kinds. Assumes nothing.
+use mathlib.Core.Path.{refl, ◌∙◌}
+use mathlib.Core.Bool.{not}
+use Prim.Native.Nat.{ℕ}
 use borrow.Author.Rules.{rules}
-use borrow.Author.Tests.{eq-eqb, ne_eqb, lt-ltb}
-use Rattle.transform.proofs.FirstLaws.{before_none, before_more, before_stop}
+use borrow.Author.Tests.{tests}
+use lib.Dec.{eqb}
+use Rattle.std.proofs.lemmas.Iterator.{YieldsList-from_range}
+use Rattle.std.proofs.lemmas.Iterator.Search.{any_from_yields_List}
+use Rattle.transform.proofs.FirstLaws.{any_fails}
+use Rattle.params.specs.Allowed.{mode_at}
 use Rattle.params.proofs.rows.any_mode.Goals as goal
 
-pub loop-kind-init : goal.loop-kind-init
-loop-kind-init c = before_none _
-
-pub returns-then-rows-kind-ne0 : goal.returns-then-rows-kind-ne0
-returns-then-rows-kind-ne0 c =
-    let l = c.loop-kind in
-    rw (before_stop _ l.kind 17 l.invariant (ne_eqb _ 0 c.if-rows-kind-ne0.true) (search rules)) (sym (lt-ltb l.kind 17 (search rules)))
-
-pub loop-kind-preserved : goal.loop-kind-preserved
-loop-kind-preserved c = let l = c.loop-kind in before_more _ l.kind l.invariant (eq-eqb _ 0 c.if-rows-kind-ne0.false)
+pub returns : goal.returns
+returns c =
+    let rows = c.args.rows.now in
+    any_from_yields_List (λ (k : ℕ). not (eqb (mode_at rows k) 0)) _ _ _ c.any.ensures.ran (YieldsList-from_range 0 17 17 refl refl) (λ x b q k. search (rules, tests))
+    ∙ any_fails _ (λ (k : ℕ). eqb (mode_at rows k) 0) 17 (λ k. refl)

@@ -1,19 +1,9 @@
 -- `record::fixed::mode_at` meets its contract. Assumes nothing.
 use mathlib.Core.Path.{sym, ap, ◌∙◌}
-use native.Mathlib.Omega.{arith}
 use Rattle.record.proofs.ItemPlaces.{handed}
-use Rattle.record.proofs.Framed.{told, kind_framed, start_small, mode_place, lines_cut}
+use Rattle.record.proofs.Framed.{told, kind_framed, mode_place, lines_cut}
 use borrow.Author.Rules.{rules}
 use Rattle.record.proofs.fixed.mode_at.Goals as goal
-
-pub overflow_sub-at : goal.overflow_sub-at
-overflow_sub-at c = omega (arith, start_small c.args.kind _ c.lines_start-start.ensures)
-
-pub slice_bounds-fixed_at-count : goal.slice_bounds-fixed_at-count
-slice_bounds-fixed_at-count c = omega (arith, start_small c.args.kind _ c.lines_start-start.ensures)
-
-pub slice_bounds-fixed_at-start : goal.slice_bounds-fixed_at-start
-slice_bounds-fixed_at-start c = search (start_small c.args.kind _ c.lines_start-start.ensures, rules)
 
 pub returns-in_err-q : goal.returns-in_err-q
 returns-in_err-q c = let a = c.args in let e = c.lines_start-start.ensures in handed _ _ c.from_residual.ensures.1 ∙ ap (told c.mode_digit-m.result) (sym c.in_err-q.was) ∙ kind_framed a.kind a.s.now a.at _ _ _ _ (mode_place a.kind _ e a.at) c.mode_digit-m.ensures.0 (lines_cut a.kind _ e _ _ (search rules) c.lines-line.ensures) c.fixed_at.ensures

@@ -1,14 +1,9 @@
 -- `record::kinds::parts_at` meets its contract. Assumes nothing.
 use mathlib.Core.Path.{◌∙◌}
 use native.Mathlib.Omega.{arith}
-use borrow.Author.Rules.{rules}
 use Rattle.record.proofs.ItemPlaces.{handed}
-use Rattle.record.proofs.RowLaws.{two_at_most}
 use Rattle.record.proofs.PartPlaces.{bands_within, numbers_within, parts_bands, parts_numbers, parts_all}
 use Rattle.record.proofs.kinds.parts_at.Goals as goal
-
-pub line_at-requires : goal.line_at-requires
-line_at-requires c = (search rules, omega (arith, two_at_most c.args.mode))
 
 pub line_at-requires-2 : goal.line_at-requires-2
 line_at-requires-2 c = (bands_within c.args.s.now c.args.at _ c.in_ok-p.p c.requires.0 c.in_ok-p.ensures.scanned, omega (arith, c.number_count-n.ensures.1))

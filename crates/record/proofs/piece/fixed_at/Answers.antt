@@ -1,10 +1,6 @@
 -- `record::piece::fixed_at` meets its contract. Assumes nothing.
-use native.Mathlib.Omega.{arith}
-use Rattle.record.proofs.Framed.{fixed_most, fixed_bad, fixed_got}
+use Rattle.record.proofs.Framed.{fixed_bad, fixed_got}
 use Rattle.record.proofs.piece.fixed_at.Goals as goal
-
-pub overflow_add-result-2 : goal.overflow_add-result-2
-overflow_add-result-2 c = let a = c.args in record { fits = omega (arith, fixed_most a.s.now a.w.now a.at _ c.shared-n.ensures) }
 
 pub returns-then-n-w : goal.returns-then-n-w
 returns-then-n-w c = let a = c.args in fixed_bad a.s.now a.w.now a.at _ c.shared-n.ensures c.if-n-w.true

@@ -14,9 +14,6 @@ returns-then-byte_at-end c = sample_nought _ _ _ _ c.byte_at-b.ensures _ c.byte_
 pub returns-then-b-eq48 : goal.returns-then-b-eq48
 returns-then-b-eq48 c = sample_led _ _ _ _ c.byte_at-b.ensures _ c.byte_at.ensures c.if-b-eq48.true c.if-byte_at-end.false
 
-pub number_at-requires : goal.number_at-requires
-number_at-requires c = (omega (arith, inside c.args.s.now c.args.at 45 (omega arith) (sym c.if-b-eq45.true ∙ c.byte_at-b.ensures)), search rules)
-
 pub returns-in_err-m : goal.returns-in_err-m
 returns-in_err-m c = handed _ _ c.from_residual.ensures.1 ∙ minus_bad _ _ _ _ c.byte_at-b.ensures _ c.if-b-eq48.false c.if-b-eq45.true c.in_err-m.ensures
 

@@ -1,16 +1,9 @@
 -- `record::reader::kinds_at` meets its contract. Assumes nothing.
 use mathlib.Core.Path.{◌∙◌}
 use Rattle.record.proofs.ItemPlaces.{handed}
-use Rattle.record.proofs.KindPlaces.{walked_start}
-use Rattle.record.proofs.WalkPlaces.{store, kinds_bad, kinds_on, kinds_done}
+use Rattle.record.proofs.WalkPlaces.{kinds_bad, kinds_on, kinds_done}
 use borrow.Author.Rules.{rules}
 use Rattle.record.proofs.reader.kinds_at.Goals as goal
-
-pub loop-kind-init : goal.loop-kind-init
-loop-kind-init c = let a = c.args in (search rules, walked_start store a.s.now a.at 17 (a.rows.now, a.arena.now) (search rules))
-
-pub row_at-requires : goal.row_at-requires
-row_at-requires c = (c.loop-kind.invariant.1.within, search rules)
 
 pub loop-kind-preserved : goal.loop-kind-preserved
 loop-kind-preserved c = let a = c.args in (search rules, kinds_on a.s.now a.at a.rows.now a.arena.now _ _ _ _ c.loop-kind.invariant.1 c.in_ok-p.p c.loop-kind-test.true c.in_ok-p.ensures.scanned _ _ c.in_ok-p.ensures.stored)
