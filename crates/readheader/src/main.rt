@@ -1,21 +1,15 @@
 // Reads a header from standard input, at most 2,550 bytes, and writes the reply and the rows.
 #![tactic(auto)]
 
-use params::Reading;
 use std::io;
 use std::io::Write;
 
-// Whether rows were written to the end of the header or to a raw kind.
-fn has_rows(r: Reading) -> bool {
-    r.is_ok()
-}
-
-// The reply of a header, and its rows.
+// The reply of a header, and its rows where they were written, to its end or to a raw kind.
 fn show_header<W: Write>(out: &mut W, header: &[u8]) -> io::Result<()> {
     let mut rows = [0u16; 2176];
     let r = params::read_header(header, 0, 0, &mut rows);
     show::reply_line(out, r)?;
-    if has_rows(r) {
+    if r.is_ok() {
         for (kind, row) in rows.chunks(128).enumerate() {
             show::row(out, kind, row)?;
         }

@@ -1,4 +1,4 @@
-// What `quantlist` writes of a header. Why it has no contract: see the head of `show`.
+// What `quantlist` writes of a header. It only writes, and has no contract (docs/DECISIONS.md, 21).
 #![tactic(auto)]
 
 use std::io;

@@ -1,4 +1,4 @@
-// What programs write of a header's set. Why it has no contract: see the head of `show`.
+// What programs write of a header's set. It only writes, and has no contract (docs/DECISIONS.md, 21).
 #![tactic(auto)]
 
 use matrix::{ExpandError, Expanded};

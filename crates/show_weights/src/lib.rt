@@ -1,4 +1,4 @@
-// What programs write of weights. Which functions have a contract: see the head of `show`.
+// What programs write of weights. What works something out has a contract, what only writes has none (docs/DECISIONS.md, 21).
 #![tactic(auto)]
 
 ghost use Rattle.std.specs.Prelude.{◌≡◌};
