@@ -2,8 +2,8 @@
 use show::Case;
 
 fn put_sample(samples: &mut [i32], place: usize, value: i32) {
-    if place < samples.len() {
-        samples[place] = value;
+    if let Some(sample) = samples.get_mut(place) {
+        *sample = value;
     }
 }
 

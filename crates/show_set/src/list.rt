@@ -6,13 +6,6 @@ use std::io;
 use std::io::Write;
 use transform::Kind;
 
-// What the line of a part says.
-#[derive(Clone, Copy)]
-enum Line {
-    Key,
-    Summary,
-}
-
 // The weights of a part, commas between them.
 fn weights<W: Write>(out: &mut W, part: &[f32]) -> io::Result<()> {
     for (i, x) in part.iter().enumerate() {
@@ -46,58 +39,47 @@ fn summary<W: Write>(out: &mut W, part: &[f32], width: usize) -> io::Result<()> 
     show::end(out)
 }
 
-fn show_part<W: Write>(out: &mut W, part: &[f32], width: usize, line: Line) -> io::Result<()> {
-    match line {
-        Line::Key => key(out, part, width),
-        Line::Summary => summary(out, part, width),
-    }
-}
-
-fn show_channel<'a, W: Write>(
+// The line of a kind's channel, as `line` writes it of the part and its width.
+fn show_channel<'a, W: Write, F: Fn(&mut W, &[f32], usize) -> io::Result<()>>(
     out: &mut W,
     straight: &'a [f32],
     transposed: &'a [f32],
     kind: usize,
     channel: usize,
-    line: Line,
-) -> io::Result<()> {
+    line: F,
+) -> io::Result<()>
+    requires { F.IsAlwaysCallable line }
+{
     let k = Kind { no: kind };
     let part = dequant::lookup(straight, transposed, kind, channel, Order::Straight);
-    show_part(out, part, k.width(), line)
+    line(out, part, k.width())
 }
 
-fn show_kind<'a, W: Write>(
+fn show_kinds<'a, W: Write, F: Fn(&mut W, &[f32], usize) -> io::Result<()>>(
     out: &mut W,
     straight: &'a [f32],
     transposed: &'a [f32],
-    kind: usize,
-    line: Line,
-) -> io::Result<()> {
-    for channel in 0..3 {
-        show_channel(out, straight, transposed, kind, channel, line)?;
-    }
-    Ok(())
-}
-
-fn show_kinds<'a, W: Write>(
-    out: &mut W,
-    straight: &'a [f32],
-    transposed: &'a [f32],
-    line: Line,
-) -> io::Result<()> {
+    line: F,
+) -> io::Result<()>
+    requires { F.IsAlwaysCallable line }
+{
     for kind in 0..Kind::COUNT {
-        show_kind(out, straight, transposed, kind, line)?;
+        show_channel(out, straight, transposed, kind, 0, &line)?;
+        show_channel(out, straight, transposed, kind, 1, &line)?;
+        show_channel(out, straight, transposed, kind, 2, &line)?;
     }
     Ok(())
 }
 
-fn list<W: Write>(
+fn list<W: Write, F: Fn(&mut W, &[f32], usize) -> io::Result<()>>(
     out: &mut W,
     header: &[u8],
     straight: &mut [f32],
     transposed: &mut [f32],
-    line: Line,
-) -> io::Result<()> {
+    line: F,
+) -> io::Result<()>
+    requires { F.IsAlwaysCallable line }
+{
     if expand_header(out, header, straight, transposed)? {
         show_kinds(out, straight, transposed, line)?;
     }
@@ -105,7 +87,13 @@ fn list<W: Write>(
 }
 
 // With two arenas, each lent once: a goal after a second loan would count them.
-fn with_arenas<W: Write>(out: &mut W, header: &[u8], line: Line) -> io::Result<()> {
+fn with_arenas<W: Write, F: Fn(&mut W, &[f32], usize) -> io::Result<()>>(
+    out: &mut W,
+    header: &[u8],
+    line: F,
+) -> io::Result<()>
+    requires { F.IsAlwaysCallable line }
+{
     let mut straight = [0.0f32; 394752];
     let mut transposed = [0.0f32; 394752];
     list(out, header, &mut straight, &mut transposed, line)
@@ -113,10 +101,10 @@ fn with_arenas<W: Write>(out: &mut W, header: &[u8], line: Line) -> io::Result<(
 
 // The first row of each: eight hexadecimal digits for a weight, commas between them.
 pub fn keys<W: Write>(out: &mut W, header: &[u8]) -> io::Result<()> {
-    with_arenas(out, header, Line::Key)
+    with_arenas(out, header, |out, part, width| key(out, part, width))
 }
 
 // Of each the 64-bit total of bits x (place + 1), and the bits of the four corner weights.
 pub fn summaries<W: Write>(out: &mut W, header: &[u8]) -> io::Result<()> {
-    with_arenas(out, header, Line::Summary)
+    with_arenas(out, header, |out, part, width| summary(out, part, width))
 }
