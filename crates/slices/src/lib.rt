@@ -18,7 +18,7 @@ pub fn put(arena: &mut [f32], at: usize, weights: &[f32])
 
 // Of the first `end` places n go, from a place on: those behind move down, and the places that come free become 0.
 // Where there are no such places nothing changes.
-#[tactic(auto, using(crate::proofs::Laws::close_beyond, crate::proofs::Laws::close_none, crate::proofs::Laws::close_all))]
+#[tactic(auto, using(crate::proofs::Laws::close_beyond, crate::proofs::Laws::close_none))]
 pub fn close(arena: &mut [f32], at: usize, n: usize, end: usize)
     ensures { arena.new ≡ close_leaves arena.old at n end }
 {
@@ -26,6 +26,9 @@ pub fn close(arena: &mut [f32], at: usize, n: usize, end: usize)
         return;
     }
     let free = end - n;
-    arena.copy_within(at + n..end, at);
+    // Weight by weight: `copy_within` would have what C links call `memmove`, which it need not have.
+    for i in at..free {
+        arena[i] = arena[i + n];
+    }
     arena[free..end].fill(0.0);
 }
