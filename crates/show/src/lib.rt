@@ -26,7 +26,7 @@ pub use cases::{Case, run_cases};
 pub use filled::{fill_samples, signed};
 pub use parts::{first, first_mut, rest};
 pub use stream::{read_full, run};
-pub use totals::total_by;
+pub use totals::{Numbers, total_by};
 pub use words::word;
 
 pub fn text<W: Write>(out: &mut W, bytes: &[u8]) -> io::Result<()>
