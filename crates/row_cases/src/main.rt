@@ -229,18 +229,15 @@ impl<'a> Replay for Lent<'a> {
     }
 }
 
+fn run_all<W: Write>(out: &mut W, s: &[u8], part: &mut [i32], buffer: &mut [u8]) -> io::Result<()> {
+    show::run_cases(out, s, Lent { part, buffer })
+}
+
 // With samples, and a buffer that is long enough for each case.
 fn with_buffer<W: Write>(out: &mut W, s: &[u8]) -> io::Result<()> {
     let mut part = [0i32; 394752];
     let mut buffer = [0u8; 4500000];
-    show::run_cases(
-        out,
-        s,
-        Lent {
-            part: &mut part,
-            buffer: &mut buffer,
-        },
-    )
+    run_all(out, s, &mut part, &mut buffer)
 }
 
 // The program.
