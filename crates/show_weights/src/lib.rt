@@ -24,7 +24,6 @@ impl Numbers for Bits {
 
 // The total of weights whose first place is 0, of any number of them: from the last place on, each weight's bits are in the
 // running sum once for each place up to its own.
-#[tactic(auto, using(crate::proofs::TotalLaws::total_is))]
 pub fn total(part: &[f32]) -> u64
     ensures { result ≡ total_from 0 part.now }
 {
