@@ -1,12 +1,11 @@
 -- What laying in and closing up leave: nothing new where it doesn't fit, and else what the library's copies and fill write. Assumes nothing.
-use Rattle.std.proofs.Common.{◌≡◌, ℕ, suc, ◌+◌, ◌-◌, ◌≤◌, ◌<◌, Bool, cond, ◌&&◌, List, ◌++◌, length, take, drop, replicate, sym, refl, ap, ◌∙◌, arith, le-leb, length-drop, length-append, length-take-le}
+use Rattle.std.proofs.Common.{◌≡◌, ℕ, ◌+◌, ◌-◌, ◌≤◌, ◌<◌, Bool, cond, ◌&&◌, List, ◌++◌, length, take, drop, replicate, sym, refl, ap, ◌∙◌, arith, le-leb, length-drop, length-append, length-take-le}
 use mathlib.Core.Bool.{and-false}
 use lib.Dec.{leb}
 use borrow.Author.Tests.{lt-leb}
 use borrow.Rule.Slice.PartMut.{put_mid}
 use lib.Ieee.{Float, of_bits, binary32}
-use lib.ListN.{get_or, set}
-use lib.Seq.{paste, paste-suc, drop-paste, get_or-drop}
+use lib.Seq.{paste}
 use Rattle.std.proofs.lemmas.List.{length-replicate, take-take}
 use Rattle.std.proofs.lemmas.Slice.{put_mid-paste}
 use Rattle.std.proofs.lemmas.List.Edits.{length-paste, paste_all, paste-paste}
@@ -23,11 +22,9 @@ module _ (l : List Float) (at : ℕ) (ws : List Float) where
   unfolding put_leaves
   put_fits h = ap (λ (b : Bool). cond b (laid_at at ws l) l) (le-leb (at + length ws) (length l) h)
 
-  -- the part from `at` on written over
-  pub put_all : at + length ws ≤ length l → (x : List Float) → x ≡ ws → put_mid at (at + length ws - at) l x ≡ put_leaves l at ws
-  put_all h x e =
-      let n : length ws ≡ at + length ws - at = omega arith in
-      put_mid-paste at (at + length ws - at) l x ws (length ws) e n refl ∙ paste_all l at ws (length ws) refl ∙ sym (put_fits h)
+  -- all copied
+  pub put_all : at + length ws ≤ length l → paste l at ws (length ws) ≡ put_leaves l at ws
+  put_all h = paste_all l at ws (length ws) refl ∙ sym (put_fits h)
 
 -- ---- a stretch closed up
 module _ (l : List Float) (at n end : ℕ) where
@@ -46,36 +43,6 @@ module _ (l : List Float) (at n end : ℕ) where
     close_fits =
         ap (λ (b : Bool). cond (b && leb end (length l)) (closed_at (of_bits binary32 0) at n end l) l) (le-leb (at + n) end h)
         ∙ ap (λ (b : Bool). cond b (closed_at (of_bits binary32 0) at n end l) l) (le-leb end (length l) g)
-
-    -- a turn at place i, up to which those behind are moved down
-    module _ (x : List Float) (i : ℕ) (z : Float) (a : at ≤ i) (b : i < end - n) (e : x ≡ paste l at (drop (at + n) l) (i - at)) where
-      abbrev behind : List Float
-      behind = drop (at + n) l
-
-      -- what stands further on is as it was
-      further : get_or x (i + n) z ≡ get_or l (i + n) z
-      further =
-          let d = length-drop (at + n) l in
-          let o : at + (i - at) ≡ i = omega arith in
-          ap (λ (y : List Float). get_or y (i + n) z) e
-          ∙ sym (get_or-drop i (paste l at behind (i - at)) n z)
-          ∙ ap (λ (j : ℕ). get_or (drop j (paste l at behind (i - at))) n z) (sym o)
-          ∙ ap (λ (y : List Float). get_or y n z) (drop-paste l at behind (i - at) (omega arith) (omega arith))
-          ∙ ap (λ (j : ℕ). get_or (drop j l) n z) o
-          ∙ get_or-drop i l n z
-
-      pub moves_down : set x i (get_or x (i + n) z) ≡ paste l at (drop (at + n) l) (i + 1 - at)
-      moves_down =
-          let d = length-drop (at + n) l in
-          let o : i ≡ at + (i - at) = omega arith in
-          let s : suc (i - at) ≡ i + 1 - at = omega arith in
-          let q : at + n + (i - at) ≡ i + n = omega arith in
-          let v = get_or x (i + n) z in
-          ap (λ (y : List Float). set y i v) e
-          ∙ ap (λ (j : ℕ). set (paste l at behind (i - at)) j v) o
-          ∙ ap (set (paste l at behind (i - at)) (at + (i - at))) (further ∙ sym (get_or-drop (at + n) l (i - at) z ∙ ap (λ (j : ℕ). get_or l j z) q))
-          ∙ paste-suc l at behind (i - at) z (omega arith) (omega arith)
-          ∙ ap (paste l at behind) s
 
     -- those behind moved down, and then the places that come free filled
     pub close_all : (x y : List Float) → x ≡ paste l at (drop (at + n) l) (end - (at + n)) → y ≡ replicate (length (take (end - (end - n)) (drop (end - n) x))) (of_bits binary32 0)
