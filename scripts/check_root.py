@@ -6,7 +6,7 @@
 LIBRARY is the static library of capi, in a repository whose crates are proved. Its two places where roots are worked out, eight side
 by side, are inlined, and known by the digits that they bring down: a shift to the right by 30. From such a loop on, before it and
 behind it, there is nothing but moves, shifts, compares, logic, sums and differences, up to an instruction that belongs to what the
-root is of, and to one that belongs to what is made of it: both are named below, and any other one fails. The root of one number is
+root is of, and to those that belong to what is made of it: they are named below, and any other one fails. The root of one number is
 in no call of the library, so it is compiled alone, and all that is compiled has to be of those kinds.
 
 A sum in the code is a counter, an address, or the compiler's form of a shift by one or of a difference; the source has none in a root.
@@ -26,10 +26,14 @@ PLAIN = re.compile(
     r"not|and|or|xor|pand|pandn|por|pxor|andps|andnps|orps|xorps|"
     r"add|sub|inc|dec|neg|sbb|adc|padd[dq]|psub[dq]"
 )
-# Where roots stand in the library: the last instruction before them that is of another kind, and the first behind them. The chains: the
-# copy of the numbers whose roots they are; the load of a band, of whose ratios the starts are made. The distances: the sum of the two
-# squares; the product that makes a position of a distance.
-PLACES = {"bands::three::chains": ("call memcpy", "movss"), "matrix::lists::fill_bands": ("addps", "mulps")}
+# Where roots stand in the library: the last instruction before them that is of another kind, and the first ones behind them, one after the
+# other, since a float step of a root could begin with a load as well. The chains: the copy of the numbers whose roots they are; a band's load
+# and the ratio of two bands, its test and its first digit, of which the starts are made. The distances: the sum of the two squares; the
+# product and the ratio that make positions of distances, and the first test of one.
+PLACES = {
+    "bands::three::chains": ("call memcpy", "movss", "divss", "ucomiss", "bsr"),
+    "matrix::lists::fill_bands": ("addps", "mulps", "divps", "mulps", "divps", "ucomiss"),
+}
 ALONE = """// The whole root, alone.
 #![tactic(auto)]
 
@@ -78,15 +82,14 @@ def brings_down(step):
     return step[0] == "psrld" and re.search(r",\s*(0x1e|30)\b", step[1])
 
 
-def around(steps):
-    """What stands before and behind the plain instructions around the digits' loop."""
+def around(steps, behind):
+    """What stands before the plain instructions around the digits' loop, and the first ones of another kind behind it."""
     at = [i for i, step in enumerate(steps) if brings_down(step)]
-    first, last = at[0], at[-1]
+    first = at[0]
     while first > 0 and PLAIN.fullmatch(steps[first][0]):
         first -= 1
-    while last < len(steps) - 1 and PLAIN.fullmatch(steps[last][0]):
-        last += 1
-    return steps[first][0], steps[last][0]
+    others = [step[0] for step in steps[at[-1]:] if not PLAIN.fullmatch(step[0])]
+    return steps[first][0], *others[:behind]
 
 
 def compiled_alone():
@@ -111,8 +114,9 @@ def main():
     if set(found) != set(PLACES):
         bad.append(f"roots stand in {sorted(found)}, not in {sorted(PLACES)}")
     for name in set(found) & set(PLACES):
-        if around(found[name]) != PLACES[name]:
-            bad.append(f"{name}: {around(found[name])} around the roots, not {PLACES[name]}")
+        stands = around(found[name], len(PLACES[name]) - 1)
+        if stands != PLACES[name]:
+            bad.append(f"{name}: {stands} around the roots, not {PLACES[name]}")
     alone = compiled_alone()
     others = sorted({step[0] for step in alone if not PLAIN.fullmatch(step[0])})
     if others or not alone:

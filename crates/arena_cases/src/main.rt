@@ -6,18 +6,35 @@
 // mask, where the weights that stand apart from it are and how many words they have; in a call on a short arena it is the first four.
 #![tactic(auto)]
 
+use show::{Case, Program, Replay};
 use std::io;
+use std::io::Write;
 
 mod calls;
 mod lent;
 mod short;
 mod shown;
 
+#[derive(Drop)]
+struct Cases;
+
+impl Replay for Cases {
+    fn write_case<W: Write>(&mut self, out: &mut W, case: Case) -> io::Result<()> {
+        calls::call(out, case)
+    }
+}
+
+impl Program for Cases {
+    fn write<W: Write>(&self, out: &mut W, text: &[u8]) -> io::Result<()> {
+        show::run_cases(out, text, Cases)
+    }
+}
+
 fn main(rt: HostRuntime) -> io::Result<()> {
     show::run(
         &mut rt.stdin(),
         &mut io::writer(&rt),
         &mut [0u8; 65536],
-        |out, text| show::run_cases(out, text, |out, case| calls::call(out, case)),
+        &Cases,
     )
 }

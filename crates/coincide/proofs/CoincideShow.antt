@@ -17,11 +17,7 @@ use Rattle.show.specs.contracts.first as first
 use Rattle.show.specs.contracts.first_mut as first-mut
 use Rattle.show.specs.contracts.total_by as total-by
 use Rattle.show.specs.contracts.word as word
-use Prim.Native.Nat.{ℕ}
 use types.Logic.{Logic}
-use Rattle.show.specs.Totals.{Gives}
-use base.Logic.{ent}
-use contract.Monad.{conj, fact}
 use denote.RattleType.{RattleType}
 use denote.Builtin.{u16, i32}
 
@@ -74,11 +70,8 @@ module _ {M : Type 1} {𝓤 : Ura M} (𝓛 : Logic 𝓤) (mem : Memory → SProp
   pub case_number_coincide : Coincide 𝓤 number.ended (number.clauses 𝓛 mem run) (λ κs r q s t. r ≡ q)
   case_number_coincide κs a g r q s t = one 𝓤 (λ e f. e ∙ sym f)
 
-  -- at any number n that is all that the closure can answer for an item
-  pub total_by_coincide : (T F : RattleType) (copy : _) (d : _) (closure : _) (d' d'' d''' d'''' : _) → let by = total-by.clauses T F copy d closure d' d'' d''' d'''' 𝓛 mem run in
-      (κs : _) (a : _) (g : (by κs a).ghost) (r q : ℕ) (s t : _) (n : T.Denot → ℕ) → Gives (λ x m. closure.post a.1.0 (x, tt) m) n
-      → ent 𝓤 (conj 𝓤 ((by κs a).ensures g r s) ((by κs a).ensures g q t)) (fact 𝓤 (r ≡ q))
-  total_by_coincide T F copy d closure d' d'' d''' d'''' κs a g r q s t n h = one 𝓤 (λ e f. e n h ∙ sym (f n h))
+  pub total_by_coincide : (N Item : RattleType) (n n' item item' : _) → Coincide 𝓤 (total-by.ended N Item n n' item item') (total-by.clauses N Item n n' item item' 𝓛 mem run) (λ κs r q s t. r ≡ q)
+  total_by_coincide N Item n n' item item' κs a g r q s t = one 𝓤 (λ e f. e ∙ sym f)
 
   pub word_coincide : Coincide 𝓤 word.ended (word.clauses 𝓛 mem run) (λ κs r q s t. r ≡ q)
   word_coincide κs a g r q s t = one 𝓤 (λ e f. e ∙ sym f)

@@ -2,13 +2,23 @@
 // shows in the straight order, the 64-bit total of bits x (place + 1) and the bits of the four corner weights.
 #![tactic(auto)]
 
+use show::Program;
 use std::io;
+use std::io::Write;
+
+struct Matrixlist;
+
+impl Program for Matrixlist {
+    fn write<W: Write>(&self, out: &mut W, header: &[u8]) -> io::Result<()> {
+        show_set::summaries(out, header)
+    }
+}
 
 fn main(rt: HostRuntime) -> io::Result<()> {
     show::run(
         &mut rt.stdin(),
         &mut io::writer(&rt),
         &mut [0u8; 2550],
-        |out, header| show_set::summaries(out, header),
+        &Matrixlist,
     )
 }

@@ -1,6 +1,7 @@
 // Reads a header from standard input, at most 2,550 bytes, and writes the reply and the rows.
 #![tactic(auto)]
 
+use show::Program;
 use std::io;
 use std::io::Write;
 
@@ -17,11 +18,19 @@ fn show_header<W: Write>(out: &mut W, header: &[u8]) -> io::Result<()> {
     Ok(())
 }
 
+struct Readheader;
+
+impl Program for Readheader {
+    fn write<W: Write>(&self, out: &mut W, header: &[u8]) -> io::Result<()> {
+        show_header(out, header)
+    }
+}
+
 fn main(rt: HostRuntime) -> io::Result<()> {
     show::run(
         &mut rt.stdin(),
         &mut io::writer(&rt),
         &mut [0u8; 2550],
-        |out, header| show_header(out, header),
+        &Readheader,
     )
 }

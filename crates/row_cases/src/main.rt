@@ -5,7 +5,7 @@
 #![tactic(auto)]
 
 use record::{ReadError, Taken, WriteError, Written};
-use show::Case;
+use show::{Case, Program, Replay};
 use std::io;
 use std::io::Write;
 
@@ -216,13 +216,37 @@ fn call<W: Write>(out: &mut W, case: Case, part: &mut [i32], buffer: &mut [u8]) 
     }
 }
 
+// What the calls are lent.
+#[derive(Drop)]
+struct Lent<'a> {
+    part: &'a mut [i32],
+    buffer: &'a mut [u8],
+}
+
+impl<'a> Replay for Lent<'a> {
+    fn write_case<W: Write>(&mut self, out: &mut W, case: Case) -> io::Result<()> {
+        call(out, case, self.part, self.buffer)
+    }
+}
+
+fn run_all<W: Write>(out: &mut W, s: &[u8], part: &mut [i32], buffer: &mut [u8]) -> io::Result<()> {
+    show::run_cases(out, s, Lent { part, buffer })
+}
+
 // With samples, and a buffer that is long enough for each case.
 fn with_buffer<W: Write>(out: &mut W, s: &[u8]) -> io::Result<()> {
     let mut part = [0i32; 394752];
     let mut buffer = [0u8; 4500000];
-    show::run_cases(out, s, |out, case| {
-        call(out, case, &mut part, &mut buffer)
-    })
+    run_all(out, s, &mut part, &mut buffer)
+}
+
+// The program.
+struct Cases;
+
+impl Program for Cases {
+    fn write<W: Write>(&self, out: &mut W, text: &[u8]) -> io::Result<()> {
+        with_buffer(out, text)
+    }
 }
 
 fn main(rt: HostRuntime) -> io::Result<()> {
@@ -230,6 +254,6 @@ fn main(rt: HostRuntime) -> io::Result<()> {
         &mut rt.stdin(),
         &mut io::writer(&rt),
         &mut [0u8; 65536],
-        |out, text| with_buffer(out, text),
+        &Cases,
     )
 }

@@ -151,6 +151,14 @@ add_says n s k m p = go (eqb m (places_of k) && lent_right n s k) (is_held (held
     go true false true a b c e = cc
     go false y z a b c e = cc
 
+-- what is known of an answer that names no part: it is a refusal
+abbrev pub NoPart : Result Part ShortError → Type 0
+NoPart r = (p : Part) → r ≡ Ok p → ⊥
+
+pub no_part : (r : Result Part ShortError) → NoPart r → (e : ShortError) × (r ≡ Err e)
+no_part (Ok p) t = absurd (t p refl)
+no_part (Err e) t = (e, refl)
+
 -- ---- what adding leaves
 module _ (n : ℕ) (s : State) (k m : ℕ) where
   pub add_keeps_state : (e : ShortError) → add_answer n s k m ≡ Err e → s ≡ add_state n s k m

@@ -1,11 +1,12 @@
 -- LENT, test by test, and what a call that is lent right knows. Assumes nothing.
 use mathlib.Core.Path.{◌≡◌, sym, ap, ◌∙◌}
 use mathlib.Core.Bool.{Bool, true, false, ◌&&◌, and-false}
+use mathlib.Core.List.{List, map}
 use Prim.Native.Nat.{ℕ, ◌-◌, ◌≤◌, ◌<◌}
 use native.Mathlib.Omega.{arith}
 use borrow.Author.Tests.{lt-ltb, le-ltb, le-leb, lt-leb, ltb-true, leb-true}
 use lib.Dec.{ltb, leb}
-use lib.ListN.{length, take, drop}
+use lib.ListN.{length, take, drop, length-map}
 use lib.Seq.{length-take-le}
 use Rattle.short_arena.specs.declared.held.State.{State}
 use Rattle.short_arena.specs.Held.{held_of, single, places_in}
@@ -13,6 +14,10 @@ use Rattle.transform.specs.Zeros.{all_zero}
 use Rattle.short_arena.specs.Short.{lent_right}
 use Rattle.transform.proofs.Chain.{here, left, right}
 use Rattle.short_arena.proofs.States.{rest_is}
+
+-- a struct's array has its length
+pub seventeen : (l : List ℕ) → length (map (λ v. v) l) ≡ 17 → length l ≡ 17
+seventeen l e = sym (length-map l (λ v. v)) ∙ e
 
 -- as many are held as are counted
 pub held_count : (s : State) → length s.kinds ≡ 17 → s.count ≤ 17 → length (held_of s) ≡ s.count

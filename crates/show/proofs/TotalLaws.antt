@@ -34,23 +34,23 @@ module _ {A : Type 0} (n : A → ℕ) where
       b : r' ≡ numbers_in (x ∷ l) % 2 ^ 64
       b = omega (arith, e, k.numbers)
 
--- the items are those that are left and, behind them, those whose sums there are, whichever of some ways gives the numbers
-pub record Behind {A : Type 0} (Way : (A → ℕ) → Type 0) (items rest : List A) (running sum : ℕ) : Type 0 where
+-- the items are those that are left and, behind them, those whose sums there are
+pub record Behind {A : Type 0} (n : A → ℕ) (items rest : List A) (running sum : ℕ) : Type 0 where
   pub done : List A
   pub split : items ≡ rest ++ done
-  pub summed : (n : A → ℕ) → Way n → Summed n done running sum
+  pub summed : Summed n done running sum
 
-pub behind_none : {A : Type 0} {Way : (A → ℕ) → Type 0} (items rest : List A) → rest ≡ items → Behind Way items rest 0 0
-behind_none items rest e = record { done = []; split = sym (append-nil rest ∙ e); summed = λ n w. summed_none n }
+pub behind_none : {A : Type 0} {n : A → ℕ} (items rest : List A) → rest ≡ items → Behind n items rest 0 0
+behind_none {n = n} items rest e = record { done = []; split = sym (append-nil rest ∙ e); summed = summed_none n }
 
-pub behind_more : {A : Type 0} {Way : (A → ℕ) → Type 0} (items rest left : List A) (x : A) (r s b : ℕ) → Behind Way items rest r s → rest ≡ push left x → ((n : A → ℕ) → Way n → b ≡ n x)
-    → Behind Way items left ((r + b) % 2 ^ 64) ((s + (r + b) % 2 ^ 64) % 2 ^ 64)
-behind_more items rest left x r s b k e f = record {
+pub behind_more : {A : Type 0} {n : A → ℕ} (items rest left : List A) (x : A) (r s b : ℕ) → Behind n items rest r s → rest ≡ push left x → b ≡ n x
+    → Behind n items left ((r + b) % 2 ^ 64) ((s + (r + b) % 2 ^ 64) % 2 ^ 64)
+behind_more {n = n} items rest left x r s b k e f = record {
   done = x ∷ k.done;
   split = k.split ∙ ap (λ l. l ++ k.done) e ∙ append_assoc left (x ∷ []) k.done;
-  summed = λ n w. summed_more n x k.done r s _ (k.summed n w) (ap (λ (m : ℕ). (r + m) % 2 ^ 64) (f n w));
+  summed = summed_more n x k.done r s _ k.summed (ap (λ (m : ℕ). (r + m) % 2 ^ 64) f);
 }
 
-pub behind_all : {A : Type 0} {Way : (A → ℕ) → Type 0} (items rest : List A) (r s : ℕ) → Behind Way items rest r s → length rest ≡ 0 → (n : A → ℕ) → Way n → s ≡ total_of n items
-behind_all items [] r s k h n w = (k.summed n w).total ∙ ap (λ l. total_of n l) (sym k.split)
-behind_all items (x ∷ rest) r s k h n w = absurd (omega arith)
+pub behind_all : {A : Type 0} {n : A → ℕ} (items rest : List A) (r s : ℕ) → Behind n items rest r s → length rest ≡ 0 → s ≡ total_of n items
+behind_all {n = n} items [] r s k h = k.summed.total ∙ ap (λ l. total_of n l) (sym k.split)
+behind_all items (x ∷ rest) r s k h = absurd (omega arith)

@@ -1,9 +1,5 @@
 -- The total of items, of which each counts with a number, times its place plus 1. Definitions only.
-use Rattle.std.specs.Prelude.{◌≡◌, ℕ, ◌+◌, ◌*◌, ◌%◌, ◌^◌, List, [], ◌∷◌}
-
--- what may be answered for an item is the number n of it alone
-abbrev pub Gives : {A : Type 0} → (A → ℕ → Type 0) → (A → ℕ) → Type 0
-Gives {A} answer n = (x : A) (r : ℕ) → answer x r → r ≡ n x
+use Rattle.std.specs.Prelude.{ℕ, ◌+◌, ◌*◌, ◌%◌, ◌^◌, List, [], ◌∷◌}
 
 -- of items whose first place is p: the number of each times its place plus 1, summed up
 unfoldable pub weighed_from : {A : Type 0} → (A → ℕ) → ℕ → List A → ℕ

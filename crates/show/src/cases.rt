@@ -1,8 +1,9 @@
 // Cases of an input of words: the first word is how many there are, the next are where each begins, and each case begins with the words
 // that its program names. A case is known by the byte at which it begins.
-ghost use Rattle.std.specs.Prelude.{◌≡◌, replicate};
-ghost use Rattle.show.specs.Input.{field_at, number_at, named_at, listed_at};
+ghost use Rattle.std.specs.Prelude.{◌≡◌, ℕ, List, Option, OnOk, replicate, ⊤};
+ghost use Rattle.show.specs.Input.{word_at, field_at, number_at, named_at, listed_at};
 ghost use Rattle.show.specs.Filled.{rows_with, samples_by};
+ghost use Rattle.show.specs.Runs.{Replayed};
 
 use crate::filled::{fill_rows, fill_samples};
 use crate::parts::{first, rest};
@@ -87,19 +88,29 @@ impl<'a> Case<'a> {
     }
 }
 
-// Replays each case of an input: its name, a line, and what `call` writes of it.
-pub fn run_cases<W: Write, F: FnMut(&mut W, Case) -> io::Result<()>>(
+// What replays a case.
+pub trait Replay {
+    // What a writer may hold after a case of an input, known by where it begins, was replayed, by what it held before. It may be left open.
+    ghost leaves: { List ℕ → ℕ → Option (List ℕ) → Option (List ℕ) → Type 0 } = { λ _ _ _ _. ⊤ };
+
+    fn write_case<W: Write>(&mut self, out: &mut W, case: Case) -> io::Result<()>
+        ensures bytes { OnOk result (leaves case.entry.bytes.now case.entry.at (W.contents out.old) (W.contents out.new)) };
+}
+
+// Replays each case of an input: its name, a line, and what `replay` writes of it.
+#[tactic(auto, using(crate::proofs::RunLaws::replayed_none))]
+pub fn run_cases<W: Write, C: Replay + Drop>(
     out: &mut W,
     input: &[u8],
-    mut call: F,
+    mut replay: C,
 ) -> io::Result<()>
-    requires { F.IsAlwaysCallable call }
+    ensures bytes { OnOk result (Replayed C.leaves input.now (word_at input.now 0) (W.contents out.old) (W.contents out.new)) }
 {
     for i in 1..=word(input, 0) as usize {
         let case = Case::new(input, word(input, i) as usize);
         text(out, case.named(0))?;
         end(out)?;
-        call(out, case)?;
+        replay.write_case(out, case)?;
     }
     Ok(())
 }

@@ -1,8 +1,8 @@
 // What programs share: the lines that they write, and what those that replay cases take from their input, where a number that isn't there
 // is 0 and a part that isn't there is empty. A function that works something out or fills what it is lent has a contract that fixes it.
 // A function that only writes answers whether the writer that it is lent took the text, and promises which bytes a writer that says what
-// it holds then holds more; `run` and `run_cases` hand what was read to a closure, and promise nothing. Each function is proved safe and
-// ending.
+// it holds then holds more; `run` and `run_cases` hand on what was read, and promise that it holds what that leaves. Each function is
+// proved safe and ending.
 #![tactic(auto)]
 
 ghost use Rattle.std.specs.Prelude.{ℕ, ◌≢◌, slice_index, MatchOption, ◌≡◌, ◌<◌, ◌≤◌, ◌++◌, length, codes, decimal, false, OnOk};
@@ -22,11 +22,11 @@ mod stream;
 mod totals;
 mod words;
 
-pub use cases::{Case, run_cases};
+pub use cases::{Case, Replay, run_cases};
 pub use filled::{fill_samples, signed};
 pub use parts::{first, first_mut, rest};
-pub use stream::{read_full, run};
-pub use totals::total_by;
+pub use stream::{Program, read_full, run};
+pub use totals::{Numbers, total_by};
 pub use words::word;
 
 pub fn text<W: Write>(out: &mut W, bytes: &[u8]) -> io::Result<()>

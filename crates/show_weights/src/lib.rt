@@ -3,16 +3,31 @@
 
 ghost use Rattle.std.specs.Prelude.{◌≡◌};
 ghost use Rattle.total.specs.Total.{total_from};
+ghost use lib.Ieee.{binary32, to_bits};
 
+use show::Numbers;
 use std::io;
 use std::io::Write;
+
+// Weights by their bits.
+struct Bits;
+
+impl Numbers for Bits {
+    type Item = f32;
+
+    ghost number = { to_bits binary32 };
+
+    fn number_of(x: f32) -> u64 {
+        u64::from(total::bits(x))
+    }
+}
 
 // The total of weights whose first place is 0, of any number of them: from the last place on, each weight's bits are in the
 // running sum once for each place up to its own.
 pub fn total(part: &[f32]) -> u64
     ensures { result ≡ total_from 0 part.now }
 {
-    show::total_by(part, |x| u64::from(total::bits(x)))
+    show::total_by::<Bits>(part)
 }
 
 // A weight's bits, as eight hexadecimal digits.

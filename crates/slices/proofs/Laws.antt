@@ -22,11 +22,9 @@ module _ (l : List Float) (at : ℕ) (ws : List Float) where
   unfolding put_leaves
   put_fits h = ap (λ (b : Bool). cond b (laid_at at ws l) l) (le-leb (at + length ws) (length l) h)
 
-  -- the part from `at` on written over
-  pub put_all : at + length ws ≤ length l → (x : List Float) → x ≡ ws → put_mid at (at + length ws - at) l x ≡ put_leaves l at ws
-  put_all h x e =
-      let n : length ws ≡ at + length ws - at = omega arith in
-      put_mid-paste at (at + length ws - at) l x ws (length ws) e n refl ∙ paste_all l at ws (length ws) refl ∙ sym (put_fits h)
+  -- all copied
+  pub put_all : at + length ws ≤ length l → paste l at ws (length ws) ≡ put_leaves l at ws
+  put_all h = paste_all l at ws (length ws) refl ∙ sym (put_fits h)
 
 -- ---- a stretch closed up
 module _ (l : List Float) (at n end : ℕ) where

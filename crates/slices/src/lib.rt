@@ -5,15 +5,17 @@ ghost use Rattle.std.specs.Prelude.{◌≡◌};
 ghost use Rattle.slices.specs.Slices.{put_leaves, close_leaves};
 
 // Weights into an arena, from a place on. Where they don't fit nothing changes.
-#[tactic(auto, using(crate::proofs::Laws::put_stays, crate::proofs::Laws::put_all))]
+#[tactic(auto, using(crate::proofs::Laws::put_stays))]
 pub fn put(arena: &mut [f32], at: usize, weights: &[f32])
     ensures { arena.new ≡ put_leaves arena.old at weights.now }
 {
     if at > arena.len() || weights.len() > arena.len() - at {
         return;
     }
-    let end = at + weights.len();
-    arena[at..end].copy_from_slice(weights);
+    // Weight by weight: for `copy_from_slice` the library would call `memmove`, which a caller in C need not have.
+    for i in 0..weights.len() {
+        arena[at + i] = weights[i];
+    }
 }
 
 // Of the first `end` places n go, from a place on: those behind move down, and the places that come free become 0.

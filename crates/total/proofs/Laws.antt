@@ -1,6 +1,6 @@
 -- The laws of the sum: one part behind another, one weight more, and how it wraps round. Assumes nothing.
-use Rattle.std.proofs.Common.{◌≡◌, ℕ, suc, ◌+◌, ◌*◌, ◌%◌, ◌^◌, ◌<◌, ◌≤◌, true, true≢false, List, [], ◌∷◌, ◌++◌, length, get_or, take, sym, refl, ap, ◌∙◌, le_trans, add-zero, mul-le-mul, add-one, arith, lit≤, length-take-le, take_all, take-suc}
-use native.Mathlib.Nat.{mod-add-mod}
+use Rattle.std.proofs.Common.{◌≡◌, ℕ, suc, ◌+◌, ◌-◌, ◌*◌, ◌%◌, ◌^◌, ◌<◌, ◌≤◌, true, true≢false, List, [], ◌∷◌, ◌++◌, length, get_or, take, sym, refl, ap, ◌∙◌, le_trans, add-zero, mod-lt, mod-eq_of_lt, mul-le-mul, add-one, arith, lit<, lit≤, length-take-le, take_all, take-suc}
+use native.Mathlib.Nat.{mod-add-mod, add-mod_right}
 use lib.Ieee.{Float, nan, inf, fin, is_nan, binary32, to_bits}
 use Rattle.total.specs.Total.{sum_from, total_from}
 
@@ -55,3 +55,18 @@ total_next l p i t b r h e f k =
 
 pub total_all : (l : List Float) (p i t : ℕ) → length l ≤ i → t ≡ total_from p (take i l) → t ≡ total_from p l
 total_all l p i t h e = e ∙ ap (total_from p) (take_all i l h)
+
+pub total_below : (p : ℕ) (l : List Float) → total_from p l < 2 ^ 64
+unfolding total_from
+total_below p l = mod-lt (sum_from p l) (lit< tt)
+
+-- a difference that wraps round, as a sum
+pub less_is : (m r a b : ℕ) → b < m → r < m → (r + b) % m ≡ a → r ≡ (a + (m - b)) % m
+less_is m r a b h g e =
+    let x : r + b + (m - b) ≡ r + m = omega arith in
+    sym
+    (ap (λ (t : ℕ). (t + (m - b)) % m) (sym e)
+    ∙ mod-add-mod (r + b) m (m - b)
+    ∙ ap (λ (t : ℕ). t % m) x
+    ∙ add-mod_right r m
+    ∙ mod-eq_of_lt g)

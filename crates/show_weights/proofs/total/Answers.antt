@@ -1,6 +1,7 @@
+-- `show_weights::total` meets its contract: the numbers that the items count with are the weights' bits. Assumes nothing.
 use Rattle.std.proofs.Common.{rules}
 use Rattle.show_weights.proofs.TotalLaws.{total_is}
 use Rattle.show_weights.proofs.total.Goals as goal
 
 pub returns : goal.returns
-returns c = total_is _ _ c.total_by.ensures (λ x r h. search rules)
+returns c = search (rules, total_is)
