@@ -1,5 +1,5 @@
 -- The total, from the last place on: each item's number is in the running sum once for each place up to its own. Assumes nothing.
-use Rattle.std.proofs.Common.{◌≡◌, ℕ, ◌+◌, ◌%◌, ◌^◌, List, [], ◌∷◌, ◌++◌, length, append-nil, append_assoc, refl, ap, ◌∙◌, sym, arith}
+use Rattle.std.proofs.Common.{◌≡◌, ℕ, ◌+◌, ◌*◌, ◌%◌, ◌^◌, List, [], ◌∷◌, ◌++◌, length, map, append-nil, append_assoc, refl, ap, ◌∙◌, sym, arith}
 use Rattle.std.specs.List.{push}
 use native.Mathlib.Nat.{add-mod}
 use Rattle.show.specs.Totals.{weighed_from, total_of}
@@ -54,3 +54,14 @@ behind_more {n = n} items rest left x r s b k e f = record {
 pub behind_all : {A : Type 0} {n : A → ℕ} (items rest : List A) (r s : ℕ) → Behind n items rest r s → length rest ≡ 0 → s ≡ total_of n items
 behind_all {n = n} items [] r s k h = k.summed.total ∙ ap (λ l. total_of n l) (sym k.split)
 behind_all items (x ∷ rest) r s k h = absurd (omega arith)
+
+-- numbers that are written down in a buffer count there as the items that they are of: with this `total_by` over such a buffer gives a
+-- caller with a closure its total
+numbers_weighed : {A : Type 0} (n : A → ℕ) (p : ℕ) (l : List A) → weighed_from (λ (m : ℕ). m) p (map n l) ≡ weighed_from n p l
+unfolding weighed_from
+numbers_weighed n p [] = refl
+numbers_weighed n p (x ∷ l) = ap (λ (s : ℕ). n x * (p + 1) + s) (numbers_weighed n (p + 1) l)
+
+pub total_numbers : {A : Type 0} (n : A → ℕ) (l : List A) → total_of (λ (m : ℕ). m) (map n l) ≡ total_of n l
+unfolding total_of
+total_numbers n l = ap (λ (s : ℕ). s % 2 ^ 64) (numbers_weighed n 0 l)
